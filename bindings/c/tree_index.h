@@ -229,14 +229,14 @@ int tree_index_at_or_below(tree_index_handle *handle, uint64_t key, tree_index_p
 int tree_index_at_or_above(tree_index_handle *handle, uint64_t key, tree_index_pair *pair);
 
 /* Writes the first pairs whose keys are within both bounds, in ascending order, as many as there
- * are places. Returns how many it wrote, and 0 if the handle holds no index of numbers. If it
- * wrote fewer than there are places, there are no others. Runs in O(log n) and the number of
+ * are places. Returns how many it wrote, and 0 if the handle holds no index of numbers. Fewer
+ * than there are places means that there are no others. Runs in O(log n) and the number of
  * places. */
 size_t tree_index_fill(tree_index_handle *handle, uint8_t low_kind, uint64_t low, uint8_t high_kind, uint64_t high, tree_index_pair *places, size_t places_length);
 
 /* Writes the last pairs whose keys are within both bounds, in descending order, as many as there
- * are places. Returns how many it wrote, and 0 if the handle holds no index of numbers. If it
- * wrote fewer than there are places, there are no others. Runs in O(log n) and the number of
+ * are places. Returns how many it wrote, and 0 if the handle holds no index of numbers. Fewer
+ * than there are places means that there are no others. Runs in O(log n) and the number of
  * places. */
 size_t tree_index_fill_back(tree_index_handle *handle, uint8_t low_kind, uint64_t low, uint8_t high_kind, uint64_t high, tree_index_pair *places, size_t places_length);
 

@@ -46,15 +46,15 @@ module _ {K : Type 0} (cmp : K → K → Ordering) where
 -- A closed handle is opened on an index of numbers that holds these pairs.
 abbrev pub OpensNumbers : List (ℕ × ℕ) → Option Store → ℤ → Option Store → Type 0
 OpensNumbers pairs None answer (Some (Numbers index)) = (answer ≡ YES) × (index.pairs ≡ pairs)
-OpensNumbers pairs None answer (Some (Bytes index)) = ⊥
 OpensNumbers pairs None answer None = answer ≡ NO_MEMORY
+OpensNumbers pairs None answer (Some new) = ⊥
 OpensNumbers pairs (Some old) answer new = (answer ≡ MISFIT) × (new ≡ Some old)
 
 -- the same of an index whose keys are strings of bytes
 abbrev pub OpensBytes : List (List ℕ × ℕ) → Option Store → ℤ → Option Store → Type 0
 OpensBytes pairs None answer (Some (Bytes index)) = (answer ≡ YES) × (index.pairs ≡ pairs)
-OpensBytes pairs None answer (Some (Numbers index)) = ⊥
 OpensBytes pairs None answer None = answer ≡ NO_MEMORY
+OpensBytes pairs None answer (Some new) = ⊥
 OpensBytes pairs (Some old) answer new = (answer ≡ MISFIT) × (new ≡ Some old)
 
 -- All pairs are removed.

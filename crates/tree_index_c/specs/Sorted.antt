@@ -11,8 +11,8 @@ use Rattle.tree_index_c.specs.declared.store.Store.TheVariants.{Numbers, Bytes}
 -- A closed handle is opened on an index of these pairs, as full as can be, if they ascend.
 abbrev pub OpensSorted : List (ℕ × ℕ) → Option Store → ℤ → Option Store → Type 0
 OpensSorted pairs None answer (Some (Numbers index)) = (answer ≡ YES) × (index.pairs ≡ pairs) × (index.packed ≡ true)
-OpensSorted pairs None answer (Some (Bytes index)) = ⊥
 OpensSorted pairs None answer None = ((answer ≡ NO) × (IsAscending nat_cmp pairs → ⊥)) ⊎ (answer ≡ NO_MEMORY)
+OpensSorted pairs None answer (Some new) = ⊥
 OpensSorted pairs (Some old) answer new = (answer ≡ MISFIT) × (new ≡ Some old)
 
 -- the pairs of some entries, whose keys lie one after another in some bytes
@@ -35,6 +35,6 @@ Refuses bytes entries answer =
 -- A closed handle is opened on an index of these pairs, as full as can be, if they ascend and the bytes of their keys are there.
 abbrev pub OpensParted : List ℕ → List Entry → Option Store → ℤ → Option Store → Type 0
 OpensParted bytes entries None answer (Some (Bytes index)) = (answer ≡ YES) × (size_of entries ≤ length bytes) × (index.pairs ≡ parted bytes entries) × (index.packed ≡ true)
-OpensParted bytes entries None answer (Some (Numbers index)) = ⊥
 OpensParted bytes entries None answer None = Refuses bytes entries answer
+OpensParted bytes entries None answer (Some new) = ⊥
 OpensParted bytes entries (Some old) answer new = (answer ≡ MISFIT) × (new ≡ Some old)

@@ -6,8 +6,8 @@
 //! strings, or none (`specs/Held.antt`).
 //!
 //! The first parameter of an export is `alloc`, the heap of the index and of the closed handle that
-//! is there while a call has taken the index out. A `Global` takes no bytes, so C passes nothing for
-//! it.
+//! is there while a call has taken the index out. C passes nothing for it, since a `Global` takes no
+//! bytes.
 //!
 //! Numbers cross, handles, and slices of bytes, pairs and entries. An index itself can't, since it
 //! has a number of 128 bits, enums and vectors, and C gets none of these in the signature of an

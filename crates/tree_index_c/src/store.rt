@@ -1,4 +1,8 @@
 //! The index that a handle leads to.
+ghost use Rattle.std.specs.Prelude.{◌≡◌};
+ghost use Rattle.std.specs.Option.{option_copied};
+ghost use Rattle.tree_index_c.specs.Held.{bytes_of, numbers_of};
+
 use tree_index::TreeIndex;
 use tree_texts::Bytes;
 
@@ -7,4 +11,26 @@ use tree_texts::Bytes;
 pub enum Store {
     Numbers(TreeIndex<u64, u64>),
     Bytes(TreeIndex<Bytes, u64>),
+}
+
+impl Store {
+    /// Returns the index, if its keys are numbers.
+    pub fn numbers(&self) -> Option<&TreeIndex<u64, u64>>
+        ensures { option_copied result ≡ numbers_of self.now }
+    {
+        match self {
+            Store::Numbers(index) => Some(index),
+            Store::Bytes(_) => None,
+        }
+    }
+
+    /// Returns the index, if its keys are strings of bytes.
+    pub fn bytes(&self) -> Option<&TreeIndex<Bytes, u64>>
+        ensures { option_copied result ≡ bytes_of self.now }
+    {
+        match self {
+            Store::Bytes(index) => Some(index),
+            Store::Numbers(_) => None,
+        }
+    }
 }

@@ -7,7 +7,7 @@ ghost use Rattle.tree_leaf.specs.Walks.{first_of, last_of};
 ghost use Rattle.tree_index.specs.Nearest.{at_or_above, at_or_below};
 ghost use Rattle.tree_index_c.specs.Answers.{Says, Writes};
 ghost use Rattle.tree_index_c.specs.Entries.{FindsEntry, WritesEntry};
-ghost use Rattle.tree_index_c.specs.Held.{OnBytes, held};
+ghost use Rattle.tree_index_c.specs.Held.{AsksBytes, UnlessBytes, held};
 ghost use Rattle.tree_model.specs.Pairs.{IsAbsent, IsPresent, pair_at};
 
 use crate::bytes::key::key_of;
@@ -15,7 +15,6 @@ use crate::entry::{Entry, write_entry};
 use crate::handle::Handle;
 use crate::pair::write_value;
 use crate::status::{MISFIT, NO, NO_MEMORY, YES};
-use crate::store::Store;
 use std::alloc::Global;
 use tree_texts::peek_bytes;
 
@@ -28,17 +27,18 @@ pub extern "C" fn tree_index_bytes_peek(
     key: &[u8],
     value: &mut u64,
 ) -> i32
-    ensures { OnBytes
-        (λ old answer new. Writes
-        (option_map (λ pair. pair.1) (pair_at (slice_cmp nat_cmp) old.pairs key.now)) answer value.old value.new
-        × (new ≡ old)) (held handle.old) result (held handle.new) }
+    ensures kept { held handle.new ≡ held handle.old }
+    ensures told { AsksBytes
+        (λ index answer. Writes (option_map (λ pair. pair.1) (pair_at (slice_cmp nat_cmp)
+        index.pairs key.now)) answer value.old value.new) (held handle.old) result }
+    ensures stays { UnlessBytes (held handle.old) (value.new ≡ value.old) }
 {
     let Some(store) = handle.take(alloc) else {
         return MISFIT;
     };
-    let answer = match &*store {
-        Store::Bytes(index) => write_value(peek_bytes(index, key).map(|(_, value)| *value), value),
-        Store::Numbers(_) => MISFIT,
+    let answer = match store.bytes() {
+        Some(index) => write_value(peek_bytes(index, key).map(|(_, value)| *value), value),
+        None => MISFIT,
     };
     *handle = Handle::leading_to(store);
     answer
@@ -47,23 +47,23 @@ pub extern "C" fn tree_index_bytes_peek(
 /// Answers whether a key is present. Runs in O(log n). Copies nothing.
 #[unsafe(no_mangle)]
 pub extern "C" fn tree_index_bytes_contains(alloc: Global, handle: &mut Handle, key: &[u8]) -> i32
-    ensures { OnBytes
-        (λ old answer new. Says (IsPresent (slice_cmp nat_cmp) old.pairs key.now)
-        (IsAbsent (slice_cmp nat_cmp) old.pairs key.now) answer × (new ≡ old))
-        (held handle.old) result (held handle.new) }
+    ensures kept { held handle.new ≡ held handle.old }
+    ensures told { AsksBytes
+        (λ index answer. Says (IsPresent (slice_cmp nat_cmp) index.pairs key.now) (IsAbsent
+        (slice_cmp nat_cmp) index.pairs key.now) answer) (held handle.old) result }
 {
     let Some(store) = handle.take(alloc) else {
         return MISFIT;
     };
-    let answer = match &*store {
-        Store::Bytes(index) => {
+    let answer = match store.bytes() {
+        Some(index) => {
             if peek_bytes(index, key).is_some() {
                 YES
             } else {
                 NO
             }
         }
-        Store::Numbers(_) => MISFIT,
+        None => MISFIT,
     };
     *handle = Handle::leading_to(store);
     answer
@@ -79,16 +79,18 @@ pub extern "C" fn tree_index_bytes_first(
     key: &mut [u8],
     entry: &mut Entry,
 ) -> i32
-    ensures { OnBytes
-        (λ old answer new. WritesEntry (first_of old.pairs) answer key.old key.new entry.old entry.new × (new ≡ old))
-        (held handle.old) result (held handle.new) }
+    ensures kept { held handle.new ≡ held handle.old }
+    ensures told { AsksBytes
+        (λ index answer. WritesEntry (first_of index.pairs) answer key.old key.new entry.old
+        entry.new) (held handle.old) result }
+    ensures stays { UnlessBytes (held handle.old) ((key.new ≡ key.old) × (entry.new ≡ entry.old)) }
 {
     let Some(store) = handle.take(alloc) else {
         return MISFIT;
     };
-    let answer = match &*store {
-        Store::Bytes(index) => write_entry(index.first(), key, entry),
-        Store::Numbers(_) => MISFIT,
+    let answer = match store.bytes() {
+        Some(index) => write_entry(index.first(), key, entry),
+        None => MISFIT,
     };
     *handle = Handle::leading_to(store);
     answer
@@ -103,16 +105,18 @@ pub extern "C" fn tree_index_bytes_last(
     key: &mut [u8],
     entry: &mut Entry,
 ) -> i32
-    ensures { OnBytes
-        (λ old answer new. WritesEntry (last_of old.pairs) answer key.old key.new entry.old entry.new × (new ≡ old))
-        (held handle.old) result (held handle.new) }
+    ensures kept { held handle.new ≡ held handle.old }
+    ensures told { AsksBytes
+        (λ index answer. WritesEntry (last_of index.pairs) answer key.old key.new entry.old
+        entry.new) (held handle.old) result }
+    ensures stays { UnlessBytes (held handle.old) ((key.new ≡ key.old) × (entry.new ≡ entry.old)) }
 {
     let Some(store) = handle.take(alloc) else {
         return MISFIT;
     };
-    let answer = match &*store {
-        Store::Bytes(index) => write_entry(index.last(), key, entry),
-        Store::Numbers(_) => MISFIT,
+    let answer = match store.bytes() {
+        Some(index) => write_entry(index.last(), key, entry),
+        None => MISFIT,
     };
     *handle = Handle::leading_to(store);
     answer
@@ -128,20 +132,21 @@ pub extern "C" fn tree_index_bytes_at_or_below(
     key: &mut [u8],
     entry: &mut Entry,
 ) -> i32
-    ensures { OnBytes
-        (λ old answer new. FindsEntry
-        (at_or_below (slice_cmp nat_cmp) old.pairs sought.now) answer key.old key.new entry.old entry.new × (new ≡ old))
-        (held handle.old) result (held handle.new) }
+    ensures kept { held handle.new ≡ held handle.old }
+    ensures told { AsksBytes
+        (λ index answer. FindsEntry (at_or_below (slice_cmp nat_cmp) index.pairs sought.now) answer
+        key.old key.new entry.old entry.new) (held handle.old) result }
+    ensures stays { UnlessBytes (held handle.old) ((key.new ≡ key.old) × (entry.new ≡ entry.old)) }
 {
     let Some(store) = handle.take(alloc) else {
         return MISFIT;
     };
-    let answer = match &*store {
-        Store::Bytes(index) => match key_of(alloc, sought) {
+    let answer = match store.bytes() {
+        Some(index) => match key_of(alloc, sought) {
             Ok(sought) => write_entry(index.at_or_below(&sought), key, entry),
             Err(_) => NO_MEMORY,
         },
-        Store::Numbers(_) => MISFIT,
+        None => MISFIT,
     };
     *handle = Handle::leading_to(store);
     answer
@@ -157,20 +162,21 @@ pub extern "C" fn tree_index_bytes_at_or_above(
     key: &mut [u8],
     entry: &mut Entry,
 ) -> i32
-    ensures { OnBytes
-        (λ old answer new. FindsEntry
-        (at_or_above (slice_cmp nat_cmp) old.pairs sought.now) answer key.old key.new entry.old entry.new × (new ≡ old))
-        (held handle.old) result (held handle.new) }
+    ensures kept { held handle.new ≡ held handle.old }
+    ensures told { AsksBytes
+        (λ index answer. FindsEntry (at_or_above (slice_cmp nat_cmp) index.pairs sought.now) answer
+        key.old key.new entry.old entry.new) (held handle.old) result }
+    ensures stays { UnlessBytes (held handle.old) ((key.new ≡ key.old) × (entry.new ≡ entry.old)) }
 {
     let Some(store) = handle.take(alloc) else {
         return MISFIT;
     };
-    let answer = match &*store {
-        Store::Bytes(index) => match key_of(alloc, sought) {
+    let answer = match store.bytes() {
+        Some(index) => match key_of(alloc, sought) {
             Ok(sought) => write_entry(index.at_or_above(&sought), key, entry),
             Err(_) => NO_MEMORY,
         },
-        Store::Numbers(_) => MISFIT,
+        None => MISFIT,
     };
     *handle = Handle::leading_to(store);
     answer

@@ -1,5 +1,5 @@
 //! Keys that begin with a prefix.
-ghost use Rattle.tree_index_c.specs.Held.{OnBytes, held};
+ghost use Rattle.tree_index_c.specs.Held.{OnBytes, UnlessBytes, held};
 ghost use Rattle.tree_index_c.specs.Prefixes.{EndsPrefix, RemovesPrefix, WritesEndOrRefuses};
 ghost use Rattle.tree_texts.specs.Prefix.{end_of};
 
@@ -54,7 +54,8 @@ pub extern "C" fn tree_index_bytes_remove_prefix(
     prefix: &[u8],
     count: &mut usize,
 ) -> i32
-    ensures { OnBytes (RemovesPrefix prefix.now count.old count.new) (held handle.old) result (held handle.new) }
+    ensures done { OnBytes (RemovesPrefix prefix.now count.old count.new) (held handle.old) result (held handle.new) }
+    ensures stays { UnlessBytes (held handle.old) (count.new ≡ count.old) }
 {
     let Some(mut store) = handle.take(alloc) else {
         return MISFIT;
@@ -70,7 +71,7 @@ pub extern "C" fn tree_index_bytes_remove_prefix(
                 Err(_) => NO_MEMORY,
             }
         }
-        Store::Numbers(_) => MISFIT,
+        _ => MISFIT,
     };
     *handle = Handle::leading_to(store);
     answer

@@ -5,7 +5,7 @@ ghost use Rattle.std.specs.Ordering.{nat_cmp};
 ghost use Rattle.tree_model.specs.Ways.{along};
 ghost use Rattle.tree_model.specs.Rest.{Moves};
 ghost use Rattle.tree_index_c.specs.Entries.{FillsBytes, FillsOrRefuses, IfBounds};
-ghost use Rattle.tree_index_c.specs.Held.{OnBytes, held};
+ghost use Rattle.tree_index_c.specs.Held.{AsksBytes, OnBytes, UnlessBytes, held};
 ghost use Rattle.tree_index_c.specs.Pairs.{bound_at, pairs_between};
 ghost use Rattle.tree_model.specs.Pairs.{cut};
 ghost use Rattle.tree_cursors.specs.Ranged.{way_of};
@@ -38,21 +38,23 @@ pub extern "C" fn tree_index_bytes_fill(
     entries: &mut [Entry],
     count: &mut usize,
 ) -> i32
-    ensures { OnBytes
-        (λ old answer new. FillsOrRefuses
-        (pairs_between (slice_cmp nat_cmp) (bound_at low_kind low.now)
-        (bound_at high_kind high.now) old.pairs) answer keys.old keys.new entries.old entries.new count.old count.new
-        × (new ≡ old)) (held handle.old) result (held handle.new) }
+    ensures kept { held handle.new ≡ held handle.old }
+    ensures told { AsksBytes
+        (λ index answer. FillsOrRefuses (pairs_between (slice_cmp nat_cmp) (bound_at low_kind
+        low.now) (bound_at high_kind high.now) index.pairs) answer keys.old keys.new entries.old
+        entries.new count.old count.new) (held handle.old) result }
+    ensures stays { UnlessBytes (held handle.old)
+        ((keys.new ≡ keys.old) × (entries.new ≡ entries.old) × (count.new ≡ count.old)) }
 {
     let Some(store) = handle.take(alloc) else {
         return MISFIT;
     };
-    let answer = match &*store {
-        Store::Bytes(index) => {
+    let answer = match store.bytes() {
+        Some(index) => {
             let bounds = bounds_of(alloc, low_kind, low, high_kind, high);
             fill(index, bounds, false, keys, entries, count)
         }
-        Store::Numbers(_) => MISFIT,
+        None => MISFIT,
     };
     *handle = Handle::leading_to(store);
     answer
@@ -72,21 +74,23 @@ pub extern "C" fn tree_index_bytes_fill_back(
     entries: &mut [Entry],
     count: &mut usize,
 ) -> i32
-    ensures { OnBytes
-        (λ old answer new. FillsOrRefuses
-        (reverse (pairs_between (slice_cmp nat_cmp) (bound_at low_kind low.now)
-        (bound_at high_kind high.now) old.pairs)) answer keys.old keys.new entries.old entries.new count.old count.new
-        × (new ≡ old)) (held handle.old) result (held handle.new) }
+    ensures kept { held handle.new ≡ held handle.old }
+    ensures told { AsksBytes
+        (λ index answer. FillsOrRefuses (reverse (pairs_between (slice_cmp nat_cmp) (bound_at
+        low_kind low.now) (bound_at high_kind high.now) index.pairs)) answer keys.old keys.new
+        entries.old entries.new count.old count.new) (held handle.old) result }
+    ensures stays { UnlessBytes (held handle.old)
+        ((keys.new ≡ keys.old) × (entries.new ≡ entries.old) × (count.new ≡ count.old)) }
 {
     let Some(store) = handle.take(alloc) else {
         return MISFIT;
     };
-    let answer = match &*store {
-        Store::Bytes(index) => {
+    let answer = match store.bytes() {
+        Some(index) => {
             let bounds = bounds_of(alloc, low_kind, low, high_kind, high);
             fill(index, bounds, true, keys, entries, count)
         }
-        Store::Numbers(_) => MISFIT,
+        None => MISFIT,
     };
     *handle = Handle::leading_to(store);
     answer
@@ -121,7 +125,7 @@ pub extern "C" fn tree_index_bytes_remove_range(
             }
             Err(_) => NO_MEMORY,
         },
-        Store::Numbers(_) => MISFIT,
+        None => MISFIT,
     };
     *handle = Handle::leading_to(store);
     answer

@@ -5,7 +5,7 @@ ghost use Rattle.std.specs.Ordering.{nat_cmp};
 ghost use Rattle.tree_leaf.specs.Walks.{first_of, last_of};
 ghost use Rattle.tree_index_c.specs.Answers.{OpensBytes, RemovesOrRefuses, Replaces, Stores, TakesOrRefuses};
 ghost use Rattle.tree_index_c.specs.Entries.{PopsEntry};
-ghost use Rattle.tree_index_c.specs.Held.{OnBytes, held};
+ghost use Rattle.tree_index_c.specs.Held.{OnBytes, UnlessBytes, held};
 
 use crate::bytes::key::key_of;
 use crate::entry::{Entry, write_entry};
@@ -52,7 +52,7 @@ pub extern "C" fn tree_index_bytes_insert(
             },
             Err(_) => NO_MEMORY,
         },
-        Store::Numbers(_) => MISFIT,
+        _ => MISFIT,
     };
     *handle = Handle::leading_to(store);
     answer
@@ -81,7 +81,7 @@ pub extern "C" fn tree_index_bytes_upsert(
             },
             Err(_) => NO_MEMORY,
         },
-        Store::Numbers(_) => MISFIT,
+        _ => MISFIT,
     };
     *handle = Handle::leading_to(store);
     answer
@@ -102,7 +102,7 @@ pub extern "C" fn tree_index_bytes_remove(alloc: Global, handle: &mut Handle, ke
             Ok(key) => { if index.remove_sync(&key) { YES } else { NO } }
             Err(_) => NO_MEMORY,
         },
-        Store::Numbers(_) => MISFIT,
+        _ => MISFIT,
     };
     *handle = Handle::leading_to(store);
     answer
@@ -117,8 +117,10 @@ pub extern "C" fn tree_index_bytes_take(
     key: &[u8],
     value: &mut u64,
 ) -> i32
-    ensures { OnBytes (λ old answer new. TakesOrRefuses (slice_cmp nat_cmp) key.now old answer value.old value.new new)
-        (held handle.old) result (held handle.new) }
+    ensures done { OnBytes
+        (λ old answer new. TakesOrRefuses (slice_cmp nat_cmp)
+        key.now old answer value.old value.new new) (held handle.old) result (held handle.new) }
+    ensures stays { UnlessBytes (held handle.old) (value.new ≡ value.old) }
 {
     let Some(mut store) = handle.take(alloc) else {
         return MISFIT;
@@ -128,7 +130,7 @@ pub extern "C" fn tree_index_bytes_take(
             Ok(key) => write_value(index.take_sync(&key).map(|(_, value)| value), value),
             Err(_) => NO_MEMORY,
         },
-        Store::Numbers(_) => MISFIT,
+        _ => MISFIT,
     };
     *handle = Handle::leading_to(store);
     answer
@@ -145,9 +147,10 @@ pub extern "C" fn tree_index_bytes_pop_first(
     key: &mut [u8],
     entry: &mut Entry,
 ) -> i32
-    ensures { OnBytes
-        (λ old answer new. PopsEntry (first_of old.pairs) (drop 1 old.pairs) old answer key.old key.new entry.old entry.new new)
-        (held handle.old) result (held handle.new) }
+    ensures done { OnBytes
+        (λ old answer new. PopsEntry (first_of old.pairs) (drop 1 old.pairs)
+        old answer key.old key.new entry.old entry.new new) (held handle.old) result (held handle.new) }
+    ensures stays { UnlessBytes (held handle.old) ((key.new ≡ key.old) × (entry.new ≡ entry.old)) }
 {
     let Some(mut store) = handle.take(alloc) else {
         return MISFIT;
@@ -160,7 +163,7 @@ pub extern "C" fn tree_index_bytes_pop_first(
             }
             answer
         }
-        Store::Numbers(_) => MISFIT,
+        _ => MISFIT,
     };
     *handle = Handle::leading_to(store);
     answer
@@ -176,9 +179,10 @@ pub extern "C" fn tree_index_bytes_pop_last(
     key: &mut [u8],
     entry: &mut Entry,
 ) -> i32
-    ensures { OnBytes
-        (λ old answer new. PopsEntry (last_of old.pairs) (take (length old.pairs - 1) old.pairs) old answer key.old key.new entry.old entry.new new)
-        (held handle.old) result (held handle.new) }
+    ensures done { OnBytes
+        (λ old answer new. PopsEntry (last_of old.pairs) (take (length old.pairs - 1) old.pairs)
+        old answer key.old key.new entry.old entry.new new) (held handle.old) result (held handle.new) }
+    ensures stays { UnlessBytes (held handle.old) ((key.new ≡ key.old) × (entry.new ≡ entry.old)) }
 {
     let Some(mut store) = handle.take(alloc) else {
         return MISFIT;
@@ -191,7 +195,7 @@ pub extern "C" fn tree_index_bytes_pop_last(
             }
             answer
         }
-        Store::Numbers(_) => MISFIT,
+        _ => MISFIT,
     };
     *handle = Handle::leading_to(store);
     answer

@@ -3,12 +3,11 @@ ghost use Rattle.std.specs.Prelude.{◌≡◌, ◌≤◌, ◌++◌, drop, length
 ghost use Rattle.std.specs.Option.{option_copied};
 ghost use Rattle.std.specs.Ordering.{nat_cmp};
 ghost use Rattle.tree_batches.specs.Batches.{values_for};
-ghost use Rattle.tree_index_c.specs.Held.{OnNumbers, held};
+ghost use Rattle.tree_index_c.specs.Held.{AsksNumbers, UnlessNumbers, held};
 ghost use Rattle.tree_index_c.specs.Many.{PeeksMany, flag_of, value_or_zero};
 
 use crate::handle::Handle;
 use crate::status::{MISFIT, NO_ROOM, YES};
-use crate::store::Store;
 use std::alloc::Global;
 use tree_batches::peek_each;
 use tree_index::TreeIndex;
@@ -25,16 +24,18 @@ pub extern "C" fn tree_index_peek_many(
     values: &mut [u64],
     found: &mut [u8],
 ) -> i32
-    ensures { OnNumbers
-        (λ old answer new. PeeksMany
-        (values_for nat_cmp old.pairs keys.now) answer values.old values.new found.old found.new × (new ≡ old))
-        (held handle.old) result (held handle.new) }
+    ensures kept { held handle.new ≡ held handle.old }
+    ensures told { AsksNumbers
+        (λ index answer. PeeksMany (values_for nat_cmp index.pairs keys.now) answer values.old
+        values.new found.old found.new) (held handle.old) result }
+    ensures stays { UnlessNumbers (held handle.old)
+        ((values.new ≡ values.old) × (found.new ≡ found.old)) }
 {
     let Some(store) = handle.take(alloc) else {
         return MISFIT;
     };
-    let answer = match &*store {
-        Store::Numbers(index) => {
+    let answer = match store.numbers() {
+        Some(index) => {
             if values.len() < keys.len() || found.len() < keys.len() {
                 NO_ROOM
             } else {
@@ -42,7 +43,7 @@ pub extern "C" fn tree_index_peek_many(
                 YES
             }
         }
-        Store::Bytes(_) => MISFIT,
+        None => MISFIT,
     };
     *handle = Handle::leading_to(store);
     answer

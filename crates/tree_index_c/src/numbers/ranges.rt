@@ -17,8 +17,8 @@ use std::ops::Bound;
 use tree_index::{Range, TreeIndex};
 
 /// Writes the first pairs whose keys are within both bounds, in ascending order, as many as there
-/// are places. Returns how many it wrote, and 0 if the handle holds no index of numbers. If it wrote
-/// fewer than there are places, there are no others. Runs in O(log n) and the number of places.
+/// are places. Returns how many it wrote, and 0 if the handle holds no index of numbers. Fewer than
+/// there are places means that there are no others. Runs in O(log n) and the number of places.
 #[unsafe(no_mangle)]
 pub extern "C" fn tree_index_fill(
     alloc: Global,
@@ -38,17 +38,17 @@ pub extern "C" fn tree_index_fill(
         return 0;
     };
     let bounds = (bound_of(low_kind, low), bound_of(high_kind, high));
-    let count = match &*store {
-        Store::Numbers(index) => fill_from(index, bounds, false, places),
-        Store::Bytes(_) => 0,
+    let count = match store.numbers() {
+        Some(index) => fill_from(index, bounds, false, places),
+        None => 0,
     };
     *handle = Handle::leading_to(store);
     count
 }
 
 /// Writes the last pairs whose keys are within both bounds, in descending order, as many as there
-/// are places. Returns how many it wrote, and 0 if the handle holds no index of numbers. If it wrote
-/// fewer than there are places, there are no others. Runs in O(log n) and the number of places.
+/// are places. Returns how many it wrote, and 0 if the handle holds no index of numbers. Fewer than
+/// there are places means that there are no others. Runs in O(log n) and the number of places.
 #[unsafe(no_mangle)]
 pub extern "C" fn tree_index_fill_back(
     alloc: Global,
@@ -68,9 +68,9 @@ pub extern "C" fn tree_index_fill_back(
         return 0;
     };
     let bounds = (bound_of(low_kind, low), bound_of(high_kind, high));
-    let count = match &*store {
-        Store::Numbers(index) => fill_from(index, bounds, true, places),
-        Store::Bytes(_) => 0,
+    let count = match store.numbers() {
+        Some(index) => fill_from(index, bounds, true, places),
+        None => 0,
     };
     *handle = Handle::leading_to(store);
     count
@@ -102,7 +102,7 @@ pub extern "C" fn tree_index_remove_range(
             index.remove_range_sync((low.as_ref(), high.as_ref()));
             YES
         }
-        Store::Bytes(_) => MISFIT,
+        None => MISFIT,
     };
     *handle = Handle::leading_to(store);
     answer

@@ -4,7 +4,7 @@ ghost use Rattle.std.specs.Option.{option_map};
 ghost use Rattle.std.specs.Ordering.{nat_cmp};
 ghost use Rattle.tree_leaf.specs.Walks.{first_of, last_of};
 ghost use Rattle.tree_index_c.specs.Answers.{OpensNumbers, Replaces, Says, Stores, Writes};
-ghost use Rattle.tree_index_c.specs.Held.{OnNumbers, held};
+ghost use Rattle.tree_index_c.specs.Held.{OnNumbers, UnlessNumbers, held};
 ghost use Rattle.tree_index_c.specs.Pairs.{pair_of};
 ghost use Rattle.tree_model.specs.Pairs.{IsAbsent, IsPresent, pair_at, without};
 
@@ -42,7 +42,7 @@ pub extern "C" fn tree_index_insert(alloc: Global, handle: &mut Handle, key: u64
             Err(InsertError::Duplicate(_, _)) => NO,
             Err(InsertError::OutOfMemory(_, _)) => NO_MEMORY,
         },
-        Store::Bytes(_) => MISFIT,
+        _ => MISFIT,
     };
     *handle = Handle::leading_to(store);
     answer
@@ -63,7 +63,7 @@ pub extern "C" fn tree_index_upsert(alloc: Global, handle: &mut Handle, key: u64
             Ok(()) => YES,
             Err(_) => NO_MEMORY,
         },
-        Store::Bytes(_) => MISFIT,
+        _ => MISFIT,
     };
     *handle = Handle::leading_to(store);
     answer
@@ -81,7 +81,7 @@ pub extern "C" fn tree_index_remove(alloc: Global, handle: &mut Handle, key: u64
     };
     let answer = match &mut *store {
         Store::Numbers(index) => { if index.remove_sync(&key) { YES } else { NO } }
-        Store::Bytes(_) => MISFIT,
+        _ => MISFIT,
     };
     *handle = Handle::leading_to(store);
     answer
@@ -96,17 +96,18 @@ pub extern "C" fn tree_index_take(
     key: u64,
     value: &mut u64,
 ) -> i32
-    ensures { OnNumbers
+    ensures done { OnNumbers
         (λ old answer new. Writes
         (option_map (λ pair. pair.1) (pair_at nat_cmp old.pairs key)) answer value.old value.new
         × (new.pairs ≡ without nat_cmp old.pairs key)) (held handle.old) result (held handle.new) }
+    ensures stays { UnlessNumbers (held handle.old) (value.new ≡ value.old) }
 {
     let Some(mut store) = handle.take(alloc) else {
         return MISFIT;
     };
     let answer = match &mut *store {
         Store::Numbers(index) => write_value(index.take_sync(&key).map(|(_, value)| value), value),
-        Store::Bytes(_) => MISFIT,
+        _ => MISFIT,
     };
     *handle = Handle::leading_to(store);
     answer
@@ -117,16 +118,17 @@ pub extern "C" fn tree_index_take(
 #[tactic(auto, using(crate::proofs::Popped::first_popped))]
 #[unsafe(no_mangle)]
 pub extern "C" fn tree_index_pop_first(alloc: Global, handle: &mut Handle, pair: &mut Pair) -> i32
-    ensures { OnNumbers
+    ensures done { OnNumbers
         (λ old answer new. Writes (first_of old.pairs) answer (pair_of pair.old) (pair_of pair.new)
         × (new.pairs ≡ drop 1 old.pairs)) (held handle.old) result (held handle.new) }
+    ensures stays { UnlessNumbers (held handle.old) (pair.new ≡ pair.old) }
 {
     let Some(mut store) = handle.take(alloc) else {
         return MISFIT;
     };
     let answer = match &mut *store {
         Store::Numbers(index) => write_pair(index.pop_first(), pair),
-        Store::Bytes(_) => MISFIT,
+        _ => MISFIT,
     };
     *handle = Handle::leading_to(store);
     answer
@@ -137,16 +139,18 @@ pub extern "C" fn tree_index_pop_first(alloc: Global, handle: &mut Handle, pair:
 #[tactic(auto, using(crate::proofs::Popped::last_popped))]
 #[unsafe(no_mangle)]
 pub extern "C" fn tree_index_pop_last(alloc: Global, handle: &mut Handle, pair: &mut Pair) -> i32
-    ensures { OnNumbers
+    ensures done { OnNumbers
         (λ old answer new. Writes (last_of old.pairs) answer (pair_of pair.old) (pair_of pair.new)
-        × (new.pairs ≡ take (length old.pairs - 1) old.pairs)) (held handle.old) result (held handle.new) }
+        × (new.pairs ≡ take (length old.pairs - 1) old.pairs))
+        (held handle.old) result (held handle.new) }
+    ensures stays { UnlessNumbers (held handle.old) (pair.new ≡ pair.old) }
 {
     let Some(mut store) = handle.take(alloc) else {
         return MISFIT;
     };
     let answer = match &mut *store {
         Store::Numbers(index) => write_pair(index.pop_last(), pair),
-        Store::Bytes(_) => MISFIT,
+        _ => MISFIT,
     };
     *handle = Handle::leading_to(store);
     answer
