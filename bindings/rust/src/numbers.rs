@@ -242,6 +242,11 @@ impl Ahead {
         Some(*pair)
     }
 
+    /// The key that was given last, if it is still here.
+    fn given(&self) -> Option<u64> {
+        Some(self.places.get(self.at.checked_sub(1)?)?.key)
+    }
+
     /// Reads the next pairs by a call that takes places and how many there are, and returns how many it has written.
     #[cold]
     fn read(&mut self, fill: impl FnOnce(*mut Pair, usize) -> usize) -> Option<Pair> {
@@ -250,12 +255,12 @@ impl Ahead {
         }
         self.asked = (2 * self.asked).clamp(FIRST_AHEAD, MOST_AHEAD);
         self.places.clear();
+        self.at = 0;
         // Two blocks serve the longest walk.
         self.places.reserve(if self.asked <= 64 { 64 } else { MOST_AHEAD });
         let count = fill(self.places.as_mut_ptr(), self.asked);
         // SAFETY: there are places for as many as were asked for, and the library has written the first `count` of them.
         unsafe { self.places.set_len(count) };
-        self.at = 0;
         self.next()
     }
 }
@@ -263,7 +268,7 @@ impl Ahead {
 /// The pairs within two bounds. It reads ahead from each end: 16 pairs first, then twice as many each time, up to 512.
 pub struct Range<'t> {
     index: &'t TreeIndex,
-    /// What neither end has given yet.
+    /// The bounds, or what an end had given when it read ahead last.
     low: Bound<u64>,
     high: Bound<u64>,
     front: Ahead,
@@ -271,12 +276,19 @@ pub struct Range<'t> {
 }
 
 impl Range<'_> {
+    /// What neither end has given yet is within these.
+    fn left(&self) -> (Bound<u64>, Bound<u64>) {
+        (self.front.given().map_or(self.low, Bound::Excluded), self.back.given().map_or(self.high, Bound::Excluded))
+    }
+
     fn read(&mut self) -> Option<Pair> {
+        (self.low, self.high) = self.left();
         let ((low_kind, low), (high_kind, high), handle) = (kind_of(self.low), kind_of(self.high), self.index.owner.get());
         self.front.read(|places, count| unsafe { raw::tree_index_fill(handle, low_kind, low, high_kind, high, places, count) })
     }
 
     fn read_back(&mut self) -> Option<Pair> {
+        (self.low, self.high) = self.left();
         let ((low_kind, low), (high_kind, high), handle) = (kind_of(self.low), kind_of(self.high), self.index.owner.get());
         self.back.read(|places, count| unsafe { raw::tree_index_fill_back(handle, low_kind, low, high_kind, high, places, count) })
     }
@@ -291,11 +303,24 @@ impl Iterator for Range<'_> {
             None => self.read()?,
         };
         // The other end may have given it since it was read.
-        if !(Bound::Unbounded, self.high).contains(&pair.key) {
+        if self.back.asked > 0 && !(Bound::Unbounded, self.left().1).contains(&pair.key) {
             return None;
         }
-        self.low = Bound::Excluded(pair.key);
         Some((pair.key, pair.value))
+    }
+
+    fn fold<B, F: FnMut(B, (u64, u64)) -> B>(mut self, first: B, mut f: F) -> B {
+        let mut sum = first;
+        while let Some(pair) = self.next() {
+            sum = f(sum, pair);
+            if self.back.asked == 0 {
+                for pair in &self.front.places[self.front.at..] {
+                    sum = f(sum, (pair.key, pair.value));
+                }
+                self.front.at = self.front.places.len();
+            }
+        }
+        sum
     }
 }
 
@@ -305,10 +330,9 @@ impl DoubleEndedIterator for Range<'_> {
             Some(pair) => pair,
             None => self.read_back()?,
         };
-        if !(self.low, Bound::Unbounded).contains(&pair.key) {
+        if self.front.asked > 0 && !(self.left().0, Bound::Unbounded).contains(&pair.key) {
             return None;
         }
-        self.high = Bound::Excluded(pair.key);
         Some((pair.key, pair.value))
     }
 }
