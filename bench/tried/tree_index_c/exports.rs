@@ -188,7 +188,7 @@ fn is_blank(entry: Entry) -> bool {
 
 impl<R: Abort> Subject<'_, R> {
     /// Makes a call and returns its answer.
-    fn made(&mut self, call: Call) -> u8 {
+    fn made(&mut self, call: Call) -> i32 {
         self.places = Places::blank();
         begins(self.alloc, name_of(call, self.is_bytes));
         let answer = if self.is_bytes {
@@ -200,7 +200,7 @@ impl<R: Abort> Subject<'_, R> {
         answer
     }
 
-    fn made_of_numbers(&mut self, call: Call) -> u8 {
+    fn made_of_numbers(&mut self, call: Call) -> i32 {
         let alloc = self.alloc;
         match call {
             Call::New => tree_index_new(alloc, &mut self.handle),
@@ -221,7 +221,7 @@ impl<R: Abort> Subject<'_, R> {
         }
     }
 
-    fn made_of_bytes(&mut self, call: Call) -> u8 {
+    fn made_of_bytes(&mut self, call: Call) -> i32 {
         let alloc = self.alloc;
         let handle = &mut self.handle;
         let places = &mut self.places;
@@ -374,7 +374,7 @@ impl<R: Abort> Subject<'_, R> {
     }
 
     /// Whether an answer is that of the vector, which then changes as the index did.
-    fn accepts(&mut self, call: Call, answer: u8) -> bool {
+    fn accepts(&mut self, call: Call, answer: i32) -> bool {
         match call {
             Call::New => answer == YES,
             Call::Insert(key, value) => {
@@ -458,7 +458,7 @@ impl<R: Abort> Subject<'_, R> {
     }
 
     /// Whether a call found this pair.
-    fn found(&self, answer: u8, pair: Option<(u64, u64)>) -> bool {
+    fn found(&self, answer: i32, pair: Option<(u64, u64)>) -> bool {
         match pair {
             Some(pair) => answer == YES && self.places.have(pair),
             None => answer == NO && self.places.are_blank(),
