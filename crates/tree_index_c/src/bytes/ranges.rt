@@ -125,7 +125,7 @@ pub extern "C" fn tree_index_bytes_remove_range(
             }
             Err(_) => NO_MEMORY,
         },
-        None => MISFIT,
+        _ => MISFIT,
     };
     *handle = Handle::leading_to(store);
     answer

@@ -102,7 +102,7 @@ pub extern "C" fn tree_index_remove_range(
             index.remove_range_sync((low.as_ref(), high.as_ref()));
             YES
         }
-        None => MISFIT,
+        _ => MISFIT,
     };
     *handle = Handle::leading_to(store);
     answer
