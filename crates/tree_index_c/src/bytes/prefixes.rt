@@ -1,4 +1,5 @@
 //! Keys that begin with a prefix.
+ghost use Rattle.std.specs.Prelude.{◌≡◌};
 ghost use Rattle.tree_index_c.specs.Held.{OnBytes, UnlessBytes, held};
 ghost use Rattle.tree_index_c.specs.Prefixes.{EndsPrefix, RemovesPrefix, WritesEndOrRefuses};
 ghost use Rattle.tree_texts.specs.Prefix.{end_of};

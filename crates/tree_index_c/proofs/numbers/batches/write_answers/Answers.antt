@@ -1,7 +1,7 @@
-use Rattle.std.proofs.Common.{◌≡◌, ℕ, length, arith, ap, ◌∙◌, nat_cmp}
+use Rattle.std.proofs.Common.{◌≡◌, length, arith, ap, ◌∙◌, nat_cmp}
 use Rattle.std.specs.Prelude.{unwrap_or}
 use Rattle.std.proofs.lemmas.List.{length-map}
-use Rattle.tree_batches.specs.Batches.{entries_for, values_for}
+use Rattle.tree_batches.specs.Batches.{values_for}
 use Rattle.tree_index_c.specs.Many.{flag_of, value_or_zero}
 use Rattle.tree_index_c.proofs.Filled.{filling_next}
 use Rattle.tree_index_c.proofs.numbers.batches.write_answers.Goals as goal

@@ -1,4 +1,4 @@
-use Rattle.std.proofs.Common.{◌≡◌, length, nat_cmp}
+use Rattle.std.proofs.Common.{nat_cmp}
 use Rattle.tree_batches.specs.Batches.{values_for}
 use Rattle.tree_index_c.specs.Many.{flag_of, value_or_zero}
 use Rattle.tree_index_c.proofs.Filled.{Filling}
