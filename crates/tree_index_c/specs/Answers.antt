@@ -57,9 +57,10 @@ OpensBytes pairs None answer None = answer ≡ NO_MEMORY
 OpensBytes pairs None answer (Some new) = ⊥
 OpensBytes pairs (Some old) answer new = (answer ≡ MISFIT) × (new ≡ Some old)
 
--- All pairs are removed.
+-- All pairs are removed, unless the index is frozen.
 abbrev pub Empties : Option Store → ℤ → Option Store → Type 0
-Empties None answer new = (answer ≡ MISFIT) × (new ≡ None)
 Empties (Some (Numbers old)) answer (Some (Numbers new)) = (answer ≡ YES) × (new.pairs ≡ []) × (new.depth ≡ 0)
 Empties (Some (Bytes old)) answer (Some (Bytes new)) = (answer ≡ YES) × (new.pairs ≡ []) × (new.depth ≡ 0)
-Empties _ _ _ = ⊥
+Empties (Some (Numbers old)) answer new = ⊥
+Empties (Some (Bytes old)) answer new = ⊥
+Empties old answer new = (answer ≡ MISFIT) × (new ≡ old)

@@ -29,6 +29,8 @@ pub extern "C" fn tree_index_len(alloc: Global, handle: &mut Handle) -> usize
     let len = match &*store {
         Store::Numbers(index) => index.len(),
         Store::Bytes(index) => index.len(),
+        Store::FrozenNumbers(index) => index.len(),
+        Store::FrozenBytes(index) => index.len(),
     };
     *handle = Handle::leading_to(store);
     len
@@ -48,6 +50,8 @@ pub extern "C" fn tree_index_depth(alloc: Global, handle: &mut Handle) -> usize
     let depth = match &*store {
         Store::Numbers(index) => index.depth(),
         Store::Bytes(index) => index.depth(),
+        Store::FrozenNumbers(index) => index.depth(),
+        Store::FrozenBytes(index) => index.depth(),
     };
     *handle = Handle::leading_to(store);
     depth
@@ -66,6 +70,8 @@ pub extern "C" fn tree_index_spare(alloc: Global, handle: &mut Handle) -> u8
     let spare = match &*store {
         Store::Numbers(index) => index.spare(),
         Store::Bytes(index) => index.spare(),
+        Store::FrozenNumbers(index) => index.spare(),
+        Store::FrozenBytes(index) => index.spare(),
     };
     *handle = Handle::leading_to(store);
     spare
@@ -80,10 +86,17 @@ pub extern "C" fn tree_index_clear(alloc: Global, handle: &mut Handle) -> i32
     let Some(mut store) = handle.take(alloc) else {
         return MISFIT;
     };
-    match &mut *store {
-        Store::Numbers(index) => index.clear(),
-        Store::Bytes(index) => index.clear(),
-    }
+    let answer = match &mut *store {
+        Store::Numbers(index) => {
+            index.clear();
+            YES
+        }
+        Store::Bytes(index) => {
+            index.clear();
+            YES
+        }
+        _ => MISFIT,
+    };
     *handle = Handle::leading_to(store);
-    YES
+    answer
 }

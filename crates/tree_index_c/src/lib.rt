@@ -20,6 +20,7 @@ mod bytes;
 mod copies;
 mod detached;
 mod entry;
+mod frozen;
 mod handle;
 mod handles;
 mod numbers;

@@ -13,7 +13,8 @@ pub const YES: i32 = 1;
 pub const NO_MEMORY: i32 = -1;
 
 /// The handle doesn't fit the call: it is closed, or open where it must be closed, or has the other
-/// kind of key. Nothing changed.
+/// kind of key, or its index is frozen where it must not be, or not where it must be. Nothing
+/// changed.
 pub const MISFIT: i32 = -2;
 
 /// The places that the caller passed are too few for a key. Nothing changed but the length that is

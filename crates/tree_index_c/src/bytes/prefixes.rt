@@ -1,6 +1,6 @@
 //! Keys that begin with a prefix.
 ghost use Rattle.std.specs.Prelude.{◌≡◌};
-ghost use Rattle.tree_index_c.specs.Held.{OnBytes, UnlessBytes, held};
+ghost use Rattle.tree_index_c.specs.Held.{OnBytes, UnlessOwnBytes, held};
 ghost use Rattle.tree_index_c.specs.Prefixes.{EndsPrefix, RemovesPrefix, WritesEndOrRefuses};
 ghost use Rattle.tree_texts.specs.Prefix.{end_of};
 
@@ -56,7 +56,7 @@ pub extern "C" fn tree_index_bytes_remove_prefix(
     count: &mut usize,
 ) -> i32
     ensures done { OnBytes (RemovesPrefix prefix.now count.old count.new) (held handle.old) result (held handle.new) }
-    ensures stays { UnlessBytes (held handle.old) (count.new ≡ count.old) }
+    ensures stays { UnlessOwnBytes (held handle.old) (count.new ≡ count.old) }
 {
     let Some(mut store) = handle.take(alloc) else {
         return MISFIT;

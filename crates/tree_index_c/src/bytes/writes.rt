@@ -5,7 +5,7 @@ ghost use Rattle.std.specs.Ordering.{nat_cmp};
 ghost use Rattle.tree_leaf.specs.Walks.{first_of, last_of};
 ghost use Rattle.tree_index_c.specs.Answers.{OpensBytes, RemovesOrRefuses, Replaces, Stores, TakesOrRefuses};
 ghost use Rattle.tree_index_c.specs.Entries.{PopsEntry};
-ghost use Rattle.tree_index_c.specs.Held.{OnBytes, UnlessBytes, held};
+ghost use Rattle.tree_index_c.specs.Held.{OnBytes, UnlessOwnBytes, held};
 
 use crate::bytes::key::key_of;
 use crate::entry::{Entry, write_entry};
@@ -120,7 +120,7 @@ pub extern "C" fn tree_index_bytes_take(
     ensures done { OnBytes
         (λ old answer new. TakesOrRefuses (slice_cmp nat_cmp)
         key.now old answer value.old value.new new) (held handle.old) result (held handle.new) }
-    ensures stays { UnlessBytes (held handle.old) (value.new ≡ value.old) }
+    ensures stays { UnlessOwnBytes (held handle.old) (value.new ≡ value.old) }
 {
     let Some(mut store) = handle.take(alloc) else {
         return MISFIT;
@@ -150,7 +150,7 @@ pub extern "C" fn tree_index_bytes_pop_first(
     ensures done { OnBytes
         (λ old answer new. PopsEntry (first_of old.pairs) (drop 1 old.pairs)
         old answer key.old key.new entry.old entry.new new) (held handle.old) result (held handle.new) }
-    ensures stays { UnlessBytes (held handle.old) ((key.new ≡ key.old) × (entry.new ≡ entry.old)) }
+    ensures stays { UnlessOwnBytes (held handle.old) ((key.new ≡ key.old) × (entry.new ≡ entry.old)) }
 {
     let Some(mut store) = handle.take(alloc) else {
         return MISFIT;
@@ -182,7 +182,7 @@ pub extern "C" fn tree_index_bytes_pop_last(
     ensures done { OnBytes
         (λ old answer new. PopsEntry (last_of old.pairs) (take (length old.pairs - 1) old.pairs)
         old answer key.old key.new entry.old entry.new new) (held handle.old) result (held handle.new) }
-    ensures stays { UnlessBytes (held handle.old) ((key.new ≡ key.old) × (entry.new ≡ entry.old)) }
+    ensures stays { UnlessOwnBytes (held handle.old) ((key.new ≡ key.old) × (entry.new ≡ entry.old)) }
 {
     let Some(mut store) = handle.take(alloc) else {
         return MISFIT;

@@ -4,7 +4,7 @@ ghost use Rattle.std.specs.Option.{option_map};
 ghost use Rattle.std.specs.Ordering.{nat_cmp};
 ghost use Rattle.tree_leaf.specs.Walks.{first_of, last_of};
 ghost use Rattle.tree_index_c.specs.Answers.{OpensNumbers, Replaces, Says, Stores, Writes};
-ghost use Rattle.tree_index_c.specs.Held.{OnNumbers, UnlessNumbers, held};
+ghost use Rattle.tree_index_c.specs.Held.{OnNumbers, UnlessOwnNumbers, held};
 ghost use Rattle.tree_index_c.specs.Pairs.{pair_of};
 ghost use Rattle.tree_model.specs.Pairs.{IsAbsent, IsPresent, pair_at, without};
 
@@ -100,7 +100,7 @@ pub extern "C" fn tree_index_take(
         (λ old answer new. Writes
         (option_map (λ pair. pair.1) (pair_at nat_cmp old.pairs key)) answer value.old value.new
         × (new.pairs ≡ without nat_cmp old.pairs key)) (held handle.old) result (held handle.new) }
-    ensures stays { UnlessNumbers (held handle.old) (value.new ≡ value.old) }
+    ensures stays { UnlessOwnNumbers (held handle.old) (value.new ≡ value.old) }
 {
     let Some(mut store) = handle.take(alloc) else {
         return MISFIT;
@@ -121,7 +121,7 @@ pub extern "C" fn tree_index_pop_first(alloc: Global, handle: &mut Handle, pair:
     ensures done { OnNumbers
         (λ old answer new. Writes (first_of old.pairs) answer (pair_of pair.old) (pair_of pair.new)
         × (new.pairs ≡ drop 1 old.pairs)) (held handle.old) result (held handle.new) }
-    ensures stays { UnlessNumbers (held handle.old) (pair.new ≡ pair.old) }
+    ensures stays { UnlessOwnNumbers (held handle.old) (pair.new ≡ pair.old) }
 {
     let Some(mut store) = handle.take(alloc) else {
         return MISFIT;
@@ -143,7 +143,7 @@ pub extern "C" fn tree_index_pop_last(alloc: Global, handle: &mut Handle, pair: 
         (λ old answer new. Writes (last_of old.pairs) answer (pair_of pair.old) (pair_of pair.new)
         × (new.pairs ≡ take (length old.pairs - 1) old.pairs))
         (held handle.old) result (held handle.new) }
-    ensures stays { UnlessNumbers (held handle.old) (pair.new ≡ pair.old) }
+    ensures stays { UnlessOwnNumbers (held handle.old) (pair.new ≡ pair.old) }
 {
     let Some(mut store) = handle.take(alloc) else {
         return MISFIT;
