@@ -78,7 +78,8 @@ enum {
   /* An allocation failed. The pairs are as they were. */
   TREE_INDEX_NO_MEMORY = -1,
   /* The handle doesn't fit the call: it is closed, or open where it must be closed, or has the
-   * other kind of key. Nothing changed. */
+   * other kind of key, or its index is frozen where it must not be, or not where it must be.
+   * Nothing changed. */
   TREE_INDEX_MISFIT = -2,
   /* The places that the caller passed are too few for a key. Nothing changed but the length that
    * is reported. */
@@ -175,9 +176,26 @@ int tree_index_bytes_pop_first(tree_index_handle *handle, uint8_t *key, size_t k
  * does. Runs in O(log n). Allocates nothing. */
 int tree_index_bytes_pop_last(tree_index_handle *handle, uint8_t *key, size_t key_length, tree_index_entry *entry);
 
-/* Opens the closed handle `to` on a copy of the index of `from`. If an allocation fails, `to`
- * stays closed. Runs in O(n). */
+/* Opens the closed handle `to` on a copy of the index of `from`, which isn't frozen even if that
+ * one is. If an allocation fails, `to` stays closed. Runs in O(n). */
 int tree_index_copy(tree_index_handle *from, tree_index_handle *to);
+
+/* Freezes the index of a handle: other handles can share it from now on, and it can't be
+ * changed. Answers TREE_INDEX_MISFIT if it is frozen. Calls that would change a frozen index
+ * answer TREE_INDEX_MISFIT, and all others answer as before. Runs in constant time. Allocates
+ * one block. */
+int tree_index_freeze(tree_index_handle *handle);
+
+/* Opens the closed handle `to` on the frozen index of `from`, without a copy. Another thread may
+ * use it then while this one uses `from`. Answers TREE_INDEX_MISFIT if the index isn't frozen.
+ * If an allocation fails, `to` stays closed. The index is freed with the last handle that shares
+ * it. Runs in constant time. Allocates one block. */
+int tree_index_share(tree_index_handle *from, tree_index_handle *to);
+
+/* Lets the frozen index of a handle be changed again. Answers TREE_INDEX_NO if other handles
+ * share it: it stays frozen then. Answers TREE_INDEX_MISFIT if it isn't frozen. Runs in constant
+ * time. Allocates nothing. */
+int tree_index_thaw(tree_index_handle *handle);
 
 /* Frees the index of a handle and closes the handle. Does nothing to a closed one. Runs in O(n). */
 void tree_index_free(tree_index_handle *handle);

@@ -3,7 +3,7 @@
 // An index owns its handle: it moves and swaps, and copies by copy() alone. Look-ups return a std::optional. A call throws
 // std::bad_alloc if it cannot allocate, and the pairs are then as they were; at() throws std::out_of_range for an absent key.
 // Walks are forward ranges of C++20, and give pairs by value. Threads that share an index take a lock around each call,
-// look-ups too.
+// look-ups too, or each read a copy of a `frozen` one, without a lock.
 #pragma once
 
 #include <algorithm>
@@ -76,6 +76,8 @@ template <class... Numbers> using if_numbers = std::enable_if_t<(std::is_integra
 
 } // namespace inside
 
+template <class Index> class frozen;
+
 // A bound of a range of keys. `bound{}`, or `{}` in its place, is no bound.
 struct bound {
   uint8_t kind = TREE_INDEX_UNBOUNDED;
@@ -86,6 +88,7 @@ struct bound {
 
 // An ordered index of numbers by numbers. A moved-from index has no pair, and takes none: assign to it before it is used.
 class index {
+  template <class Index> friend class frozen;
   inside::owner owner_;
 
 public:
@@ -307,6 +310,7 @@ inline byte_bound byte_bound::end_of(std::string_view prefix) {
 
 // An ordered index of byte strings by numbers, in the order of memcmp, a prefix first. It copies its keys.
 class byte_index {
+  template <class Index> friend class frozen;
   inside::owner owner_;
 
   static const uint8_t *bytes_of(std::string_view key) { return inside::bytes_of(key); }
@@ -509,6 +513,37 @@ inline byte_index::range_type byte_index::reversed(byte_bound low, byte_bound hi
 inline byte_index::range_type byte_index::prefix(std::string_view prefix) const { return range(byte_bound::including(prefix), byte_bound::end_of(prefix)); }
 inline byte_index::iterator byte_index::lower_bound(std::string_view key) const { return iterator(this, false, byte_bound::including(key), {}, inside::few_ahead); }
 inline byte_index::iterator byte_index::upper_bound(std::string_view key) const { return iterator(this, false, byte_bound::excluding(key), {}, inside::few_ahead); }
+
+// An index that can't be changed, and that threads read at once without a lock: each has a copy of this object for itself. A
+// copy shares the pairs, and allocates one block. `*` and `->` lead to the index.
+template <class Index> class frozen {
+  Index index_;
+
+  static Index freeze(Index &&index) {
+    inside::done(tree_index_freeze(index.owner_.get()));
+    return std::move(index);
+  }
+
+public:
+  // Takes an index over. If it cannot allocate, it throws, and the index is as it was.
+  explicit frozen(Index &&index) : index_(freeze(std::move(index))) {}
+  frozen(const frozen &other) : index_(typename Index::closed{}) { inside::done(tree_index_share(other.index_.owner_.get(), index_.owner_.get())); }
+  frozen(frozen &&) noexcept = default;
+  frozen &operator=(frozen other) noexcept {
+    index_.swap(other.index_);
+    return *this;
+  }
+
+  const Index &operator*() const noexcept { return index_; }
+  const Index *operator->() const noexcept { return &index_; }
+
+  // The index, to be changed again, or nothing if another object shares it: `std::move(it).thaw()`. Copies no pair. For a
+  // copy of the pairs, call `copy()` of the index.
+  std::optional<Index> thaw() && {
+    if (!inside::done(tree_index_thaw(index_.owner_.get()))) return std::nullopt;
+    return std::move(index_);
+  }
+};
 
 } // namespace tree_index
 

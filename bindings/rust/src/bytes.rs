@@ -27,7 +27,7 @@ const MOST_AHEAD: usize = 64;
 /// # }
 /// ```
 pub struct ByteIndex {
-    owner: Owner,
+    pub(crate) owner: Owner,
 }
 
 impl ByteIndex {

@@ -29,7 +29,7 @@ const MOST_AHEAD: usize = 512;
 /// # }
 /// ```
 pub struct TreeIndex {
-    owner: Owner,
+    pub(crate) owner: Owner,
 }
 
 impl TreeIndex {

@@ -9,7 +9,7 @@ pub const NO: i32 = 0;
 pub const YES: i32 = 1;
 /// An allocation failed. The pairs are as they were.
 pub const NO_MEMORY: i32 = -1;
-/// The handle doesn't fit the call: it is closed, or open where it must be closed, or has the other kind of key. Nothing changed.
+/// The handle doesn't fit the call: it is closed, or open where it must be closed, or has the other kind of key, or its index is frozen where it must not be, or not where it must be. Nothing changed.
 pub const MISFIT: i32 = -2;
 /// The places that the caller passed are too few for a key. Nothing changed but the length that is reported.
 pub const NO_ROOM: i32 = -3;
@@ -35,6 +35,9 @@ unsafe extern "C" {
     pub fn tree_index_bytes_pop_first(handle: *mut Handle, key: *mut u8, key_length: usize, entry: *mut Entry) -> i32;
     pub fn tree_index_bytes_pop_last(handle: *mut Handle, key: *mut u8, key_length: usize, entry: *mut Entry) -> i32;
     pub fn tree_index_copy(from: *mut Handle, to: *mut Handle) -> i32;
+    pub fn tree_index_freeze(handle: *mut Handle) -> i32;
+    pub fn tree_index_share(from: *mut Handle, to: *mut Handle) -> i32;
+    pub fn tree_index_thaw(handle: *mut Handle) -> i32;
     pub fn tree_index_free(handle: *mut Handle);
     pub fn tree_index_len(handle: *mut Handle) -> usize;
     pub fn tree_index_depth(handle: *mut Handle) -> usize;
