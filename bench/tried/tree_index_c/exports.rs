@@ -16,6 +16,7 @@ use crate::bytes::writes::{
 };
 use crate::copies::tree_index_copy;
 use crate::entry::Entry;
+use crate::frozen::{tree_index_freeze, tree_index_share, tree_index_thaw};
 use crate::handle::Handle;
 use crate::handles::{tree_index_depth, tree_index_free, tree_index_len};
 use crate::numbers::ranges::{tree_index_fill, tree_index_fill_back};
@@ -68,6 +69,8 @@ enum Call {
     RemovePrefix(u64),
     FromSorted(u64),
     Copy,
+    Freeze,
+    Share,
 }
 
 /// The places that a call may write to.
@@ -143,6 +146,8 @@ fn name_of(call: Call, is_bytes: bool) -> &'static str {
         Call::FromSorted(_) if is_bytes => "tree_index_bytes_from_sorted",
         Call::FromSorted(_) => "tree_index_from_sorted",
         Call::Copy => "tree_index_copy",
+        Call::Freeze => "tree_index_freeze",
+        Call::Share => "tree_index_share",
     }
 }
 
@@ -217,6 +222,8 @@ impl<R: Abort> Subject<'_, R> {
                 };
                 tree_index_from_sorted(alloc, opened, &self.room.pairs[..count as usize])
             }
+            Call::Freeze => tree_index_freeze(alloc, &mut self.handle),
+            Call::Share => tree_index_share(alloc, &mut self.handle, &mut self.other),
             _ => tree_index_copy(alloc, &mut self.handle, &mut self.other),
         }
     }
@@ -341,6 +348,8 @@ impl<R: Abort> Subject<'_, R> {
                 )
             }
             Call::Copy => tree_index_copy(alloc, handle, &mut self.other),
+            Call::Freeze => tree_index_freeze(alloc, handle),
+            Call::Share => tree_index_share(alloc, handle, &mut self.other),
         }
     }
 
@@ -453,7 +462,8 @@ impl<R: Abort> Subject<'_, R> {
                 }
                 answer == YES
             }
-            Call::Copy => answer == YES && self.other_is_a_copy(),
+            Call::Copy | Call::Share => answer == YES && self.other_is_a_copy(),
+            Call::Freeze => answer == YES,
         }
     }
 
@@ -679,6 +689,10 @@ fn of_either<R: Abort>(subject: &mut Subject<'_, R>) -> Result<(), AllocError> {
     subject.step(Call::Upsert(5, 6))?;
     subject.step(Call::Upsert(50, 6))?;
     subject.step(Call::Copy)?;
+    subject.step(Call::Freeze)?;
+    subject.step(Call::Share)?;
+    subject.step(Call::Copy)?;
+    assert!(subject.rt; tree_index_thaw(subject.alloc, &mut subject.handle) == YES);
     subject.step(Call::FromSorted(40))
 }
 
