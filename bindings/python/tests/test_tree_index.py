@@ -8,6 +8,7 @@ import os
 import pickle
 import random
 import sys
+import threading
 
 import tree_index
 from tree_index import TreeIndex
@@ -217,6 +218,53 @@ def test_a_walk_meets_a_write():
         assert refused(RuntimeError, next, walk)
     index = TreeIndex({1: 1})
     assert list(index) == [1]
+
+
+def test_a_frozen_index_takes_no_write():
+    for keys in (range(300), [b"%03d" % key for key in range(300)], []):
+        index = TreeIndex((key, key) for key in keys)
+        before = list(index.items())
+        key = keys[7] if keys else 7
+        index.freeze()
+        index.freeze()
+        assert index.is_frozen and list(index.items()) == before
+        writes = (
+            lambda: index.__setitem__(key, 1),
+            lambda: index.__delitem__(key),
+            lambda: index.setdefault(key, 1),
+            lambda: index.pop(key, None),
+            lambda: index.pop_range(),
+            lambda: index.update({key: 1}),
+            index.clear,
+        )
+        assert all(refused(TypeError, write) for write in writes)
+        assert not keys or refused(TypeError, index.popitem)
+        assert not isinstance(key, bytes) or refused(TypeError, index.pop_prefix, b"0")
+        assert list(index.items()) == before and list(reversed(index)) == [it for it, _ in reversed(before)]
+        copied = index.copy()
+        copied[key] = None
+        assert not copied.is_frozen and list(index.items()) == before
+        index.thaw()
+        index.thaw()
+        index[key] = None
+        assert index[key] is None and not index.is_frozen
+
+
+def test_threads_read_a_frozen_index():
+    index = TreeIndex((key, str(key)) for key in range(5000))
+    index.freeze()
+    found = []
+
+    def read(seed):
+        chance = random.Random(seed)
+        found.append(all(index[key] == str(key) and index.at_or_above(key)[0] == key for key in (chance.randrange(5000) for _ in range(3000))))
+
+    threads = [threading.Thread(target=read, args=(seed,)) for seed in range(4)]
+    for thread in threads:
+        thread.start()
+    for thread in threads:
+        thread.join()
+    assert found == [True] * 4
 
 
 def test_pickles_and_copies():

@@ -21,6 +21,8 @@ typedef struct {
   enum kind kind;
   /* How many writes there were: a walk ends where it meets another number. */
   uint64_t writes;
+  /* Whether it takes no writes. The library refuses them too, once there is a key. */
+  int is_frozen;
 } Index;
 
 /* A key on its way to the library. It owns the UTF-8 of a str: `let_go` frees that. */
@@ -107,8 +109,15 @@ static int read_sought(Index *self, PyObject *object, Key *key) {
   return -1;
 }
 
+/* Returns whether the index takes writes, and raises TypeError if it doesn't. */
+static int may_write(Index *self) {
+  if (self->is_frozen) PyErr_SetString(PyExc_TypeError, "the index is frozen: thaw() lets it be changed again, and copy() gives one that can be changed");
+  return !self->is_frozen;
+}
+
 /* Opens the handle for the first key. */
 static int open_for(Index *self, enum kind kind) {
+  if (!may_write(self)) return -1;
   if (self->kind == NONE) {
     int answer = kind == NUMBERS ? tree_index_new(&self->handle) : tree_index_bytes_new(&self->handle);
     if (answer != TREE_INDEX_YES) {
@@ -537,6 +546,7 @@ static PyObject *index_new(PyTypeObject *type, PyObject *args, PyObject *kwargs)
   self->handle = (tree_index_handle)TREE_INDEX_CLOSED;
   self->kind = NONE;
   self->writes = 0;
+  self->is_frozen = 0;
   return (PyObject *)self;
 }
 
@@ -561,7 +571,7 @@ static PyObject *index_subscript(PyObject *object, PyObject *sought) {
 static PyObject *taken(Index *self, PyObject *sought, int *failed) {
   Key key;
   uint64_t stored;
-  int may = read_sought(self, sought, &key);
+  int may = may_write(self) ? read_sought(self, sought, &key) : -1;
   *failed = may < 0;
   if (may <= 0) return NULL;
   int answer = take(self, &key, &stored);
@@ -755,7 +765,7 @@ static PyObject *index_pop(PyObject *object, PyObject *args) {
 
 static PyObject *index_clear_all(PyObject *object, PyObject *none) {
   (void)none;
-  if (empty((Index *)object) < 0) return NULL;
+  if (!may_write((Index *)object) || empty((Index *)object) < 0) return NULL;
   Py_RETURN_NONE;
 }
 
@@ -866,7 +876,7 @@ static PyObject *index_at_or_above(PyObject *object, PyObject *sought) { return 
 
 /* Removes the items within two bounds, which it takes over, and gives them as a list. */
 static PyObject *pop_between(Index *self, Bound low, Bound high, const char *name) {
-  PyObject *items = PyList_New(0);
+  PyObject *items = may_write(self) ? PyList_New(0) : NULL;
   if (!items || self->kind == NONE) {
     Py_XDECREF(low.bytes);
     Py_XDECREF(high.bytes);
@@ -892,6 +902,7 @@ static PyObject *pop_between(Index *self, Bound low, Bound high, const char *nam
     }
   }
   end(&ahead);
+  if (!more && !may_write(self)) more = -1;
   int answer = TREE_INDEX_YES;
   if (!more) {
     size_t low_length, high_length;
@@ -919,7 +930,7 @@ static PyObject *index_pop_range(PyObject *object, PyObject *args, PyObject *kwa
   if (!PyArg_ParseTupleAndKeywords(args, kwargs, "|OOO:pop_range", names, &minimum, &maximum, &inclusive)) return NULL;
   Bound low, high;
   int some = read_bounds((Index *)object, minimum, maximum, inclusive, &low, &high);
-  if (some < 0) return NULL;
+  if (some < 0 || (!some && !may_write((Index *)object))) return NULL;
   return some ? pop_between((Index *)object, low, high, "pop_range") : PyList_New(0);
 }
 
@@ -937,6 +948,7 @@ static PyObject *index_copy_from(PyObject *object, PyObject *given) {
     return NULL;
   }
   Index *from = (Index *)given;
+  if (!may_write(self)) return NULL;
   if (from->kind == NONE) Py_RETURN_NONE;
   if (tree_index_copy(&from->handle, &self->handle) != TREE_INDEX_YES) return PyErr_NoMemory();
   Ahead ahead;
@@ -969,6 +981,28 @@ static PyObject *index_copy_from(PyObject *object, PyObject *given) {
   Py_RETURN_NONE;
 }
 
+static PyObject *index_freeze(PyObject *object, PyObject *none) {
+  Index *self = (Index *)object;
+  (void)none;
+  if (self->kind != NONE && !self->is_frozen && tree_index_freeze(&self->handle) != TREE_INDEX_YES) return PyErr_NoMemory();
+  self->is_frozen = 1;
+  Py_RETURN_NONE;
+}
+
+/* No other handle shares the index, so it thaws. */
+static PyObject *index_thaw(PyObject *object, PyObject *none) {
+  Index *self = (Index *)object;
+  (void)none;
+  if (self->is_frozen) tree_index_thaw(&self->handle);
+  self->is_frozen = 0;
+  Py_RETURN_NONE;
+}
+
+static PyObject *index_is_frozen(PyObject *object, void *none) {
+  (void)none;
+  return PyBool_FromLong(((Index *)object)->is_frozen);
+}
+
 static PyObject *index_depth(PyObject *object, void *none) {
   (void)none;
   return PyLong_FromSize_t(tree_index_depth(&((Index *)object)->handle));
@@ -992,11 +1026,14 @@ static PyMethodDef index_methods[] = {
     {"pop_prefix", index_pop_prefix, METH_O, "pop_prefix(prefix): removes the items whose keys begin with a prefix and returns them."},
     {"at_or_below", index_at_or_below, METH_O, "at_or_below(key): the item with a key, or else with the next smaller one, or None."},
     {"at_or_above", index_at_or_above, METH_O, "at_or_above(key): the item with a key, or else with the next larger one, or None."},
+    {"freeze", index_freeze, METH_NOARGS, "Refuses every write from now on by TypeError, so that who reads the index needs no copy."},
+    {"thaw", index_thaw, METH_NOARGS, "Lets a frozen index be changed again."},
     {NULL, NULL, 0, NULL},
 };
 
 static PyGetSetDef index_fields[] = {
     {"depth", index_depth, NULL, "How many levels of nodes there are.", NULL},
+    {"is_frozen", index_is_frozen, NULL, "Whether the index refuses writes.", NULL},
     {NULL, NULL, NULL, NULL, NULL},
 };
 
