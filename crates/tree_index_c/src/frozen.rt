@@ -15,8 +15,8 @@ use std::mem;
 use std::sync::Arc;
 
 /// Freezes the index of a handle: other handles can share it from now on, and it can't be changed.
-/// Answers `MISFIT` if it is frozen. Calls that would change a frozen index answer `MISFIT`, and all
-/// others answer as before. Runs in constant time. Allocates one block.
+/// Answers `MISFIT` if it is frozen. Calls that would change a frozen index answer `MISFIT`, and
+/// all others answer as before. Runs in constant time. Allocates one block.
 #[unsafe(no_mangle)]
 pub extern "C" fn tree_index_freeze(alloc: Global, handle: &mut Handle) -> i32
     ensures { Freezes (held handle.old) result (held handle.new) }
