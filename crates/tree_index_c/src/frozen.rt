@@ -54,7 +54,8 @@ pub extern "C" fn tree_index_share(alloc: Global, from: &mut Handle, to: &mut Ha
 }
 
 /// Lets the frozen index of a handle be changed again. Answers `NO` if other handles share it: it
-/// stays frozen then. Answers `MISFIT` if it isn't frozen. Runs in constant time. Allocates nothing.
+/// stays frozen then. Answers `MISFIT` if it isn't frozen. Runs in constant time. Allocates
+/// nothing.
 #[unsafe(no_mangle)]
 pub extern "C" fn tree_index_thaw(alloc: Global, handle: &mut Handle) -> i32
     ensures { Thaws (held handle.old) result (held handle.new) }
