@@ -16,8 +16,9 @@
  *   - A handle begins as TREE_INDEX_CLOSED. After that only the calls below write to it, and it isn't copied. To move it,
  *     assign it and close the old one: `new = old; old = (tree_index_handle)TREE_INDEX_CLOSED;`.
  *   - One call at a time has a handle, look-ups too: each takes the index out of its handle and puts it back, so a second
- *     call meanwhile would find the handle half written. Threads that share one take a lock around each call. A handle may
- *     go from thread to thread.
+ *     call meanwhile would find the handle half written. Threads that share one take a lock around each call. To read at
+ *     once without a lock, each has a handle of its own, which tree_index_share opens on a frozen index. A handle may go
+ *     from thread to thread.
  *   - No pointer is null, not even that of an array of length 0. Arrays have at least the length that is passed, and the
  *     things that one call is passed pointers to don't overlap.
  *   - No call is made from a signal handler, or in the forked child of a process with threads.
