@@ -3,7 +3,7 @@
 // An index owns its handle: it moves and swaps, and copies by copy() alone. Look-ups return a std::optional. A call throws
 // std::bad_alloc if it cannot allocate, and the pairs are then as they were; at() throws std::out_of_range for an absent key.
 // Walks are forward ranges of C++20, and give pairs by value. Threads that share an index take a lock around each call,
-// look-ups too.
+// look-ups too, or each read a copy of a `frozen` one, without a lock.
 #pragma once
 
 #include <algorithm>
@@ -31,7 +31,7 @@ namespace tree_index {
 namespace inside {
 
 // Answers whether a write was done, and throws if it could not allocate.
-inline bool done(uint8_t answer) {
+inline bool done(int answer) {
   if (answer == TREE_INDEX_NO_MEMORY) throw std::bad_alloc();
   return answer == TREE_INDEX_YES;
 }
@@ -66,13 +66,17 @@ template <class Pair> struct arrow {
   const Pair *operator->() const noexcept { return &pair; }
 };
 
-// How many pairs a walk reads ahead, and how many it reads first if it was begun for one pair.
-constexpr std::size_t most_ahead = 64, few_ahead = 4;
+// How many pairs a walk reads first, or if it was begun for one pair. Each time it reads twice as many, up to the most.
+constexpr std::size_t first_ahead = 16, few_ahead = 4, most_ahead = 256, most_keys_ahead = 64;
+
+constexpr std::size_t more_than(std::size_t ahead, std::size_t most) { return std::min(std::max(2 * ahead, first_ahead), most); }
 
 // Where each type is a whole number. An argument `{}` is none, and so is taken as a bound.
 template <class... Numbers> using if_numbers = std::enable_if_t<(std::is_integral_v<Numbers> && ...)>;
 
 } // namespace inside
+
+template <class Index> class frozen;
 
 // A bound of a range of keys. `bound{}`, or `{}` in its place, is no bound.
 struct bound {
@@ -84,6 +88,7 @@ struct bound {
 
 // An ordered index of numbers by numbers. A moved-from index has no pair, and takes none: assign to it before it is used.
 class index {
+  template <class Index> friend class frozen;
   inside::owner owner_;
 
 public:
@@ -174,7 +179,7 @@ public:
   }
 
   // The pairs in ascending order, or in descending order. After a write begin a new walk: an old one may still give up to
-  // 64 pairs as they were before. Two numbers are the keys from the first up to the second, the second itself not.
+  // 256 pairs as they were before. Two numbers are the keys from the first up to the second, the second itself not.
   iterator begin() const;
   iterator end() const;
   template <class Low, class High, class = inside::if_numbers<Low, High>> range_type range(Low low, High high) const;
@@ -215,12 +220,15 @@ class index::iterator {
   const index *of_ = nullptr;
   bool descends_ = false;
   bound low_, high_;
+  // How many were asked for. If fewer were there, no more are.
+  std::size_t asked_ = 0;
   page page_;
 
   void read(std::size_t most) noexcept {
     auto call = descends_ ? tree_index_fill_back : tree_index_fill;
     page_.count = call(of_->owner_.get(), low_.kind, low_.key, high_.kind, high_.key, page_.places.data(), most);
     page_.at = 0;
+    asked_ = most;
     if (page_.count == 0) of_ = nullptr;
     else (descends_ ? high_ : low_) = bound::excluding(page_.places[page_.count - 1].key);
   }
@@ -234,12 +242,14 @@ public:
   using reference = value_type;
 
   iterator() noexcept = default;
-  iterator(const index *of, bool descends, bound low, bound high, std::size_t first = inside::most_ahead) noexcept : of_(of), descends_(descends), low_(low), high_(high) { read(first); }
+  iterator(const index *of, bool descends, bound low, bound high, std::size_t first = inside::first_ahead) noexcept : of_(of), descends_(descends), low_(low), high_(high) { read(first); }
 
   reference operator*() const noexcept { return {page_.pair().key, page_.pair().value}; }
   pointer operator->() const noexcept { return {**this}; }
   iterator &operator++() noexcept {
-    if (++page_.at == page_.count) read(inside::most_ahead);
+    if (++page_.at < page_.count) return *this;
+    if (page_.count < asked_) of_ = nullptr;
+    else read(inside::more_than(asked_, inside::most_ahead));
     return *this;
   }
   iterator operator++(int) noexcept {
@@ -300,6 +310,7 @@ inline byte_bound byte_bound::end_of(std::string_view prefix) {
 
 // An ordered index of byte strings by numbers, in the order of memcmp, a prefix first. It copies its keys.
 class byte_index {
+  template <class Index> friend class frozen;
   inside::owner owner_;
 
   static const uint8_t *bytes_of(std::string_view key) { return inside::bytes_of(key); }
@@ -396,7 +407,7 @@ private:
     std::string key(64, 0);
     tree_index_entry entry;
     for (;;) {
-      uint8_t answer = call(reinterpret_cast<uint8_t *>(&key[0]), key.size(), &entry);
+      int answer = call(reinterpret_cast<uint8_t *>(&key[0]), key.size(), &entry);
       if (answer == TREE_INDEX_NO_ROOM) {
         key.resize(entry.length);
         continue;
@@ -413,7 +424,7 @@ class byte_index::iterator {
   // What was read ahead: the bytes of one key after another, and the length and the value of each.
   struct page {
     std::vector<uint8_t> keys;
-    std::array<tree_index_entry, inside::most_ahead> entries;
+    std::array<tree_index_entry, inside::most_keys_ahead> entries;
     std::size_t count = 0;
   };
 
@@ -421,18 +432,17 @@ class byte_index::iterator {
   bool descends_ = false;
   byte_bound low_, high_;
   std::shared_ptr<const page> page_;
-  // The entry, and where its key begins.
-  std::size_t at_ = 0, from_ = 0;
+  // The entry, where its key begins, and how many were asked for.
+  std::size_t at_ = 0, from_ = 0, asked_ = 0;
 
   const tree_index_entry &entry() const { return page_->entries[at_]; }
-  std::string_view key() const { return {reinterpret_cast<const char *>(page_->keys.data()) + from_, entry().length}; }
 
   void read(std::size_t most) {
     auto made = std::make_shared<page>();
     made->keys.resize(32 * most);
     auto call = descends_ ? tree_index_bytes_fill_back : tree_index_bytes_fill;
     for (;;) {
-      uint8_t answer = call(of_->owner_.get(), low_.kind, bytes_of(low_.key), low_.key.size(), high_.kind, bytes_of(high_.key), high_.key.size(), made->keys.data(), made->keys.size(), made->entries.data(), most, &made->count);
+      int answer = call(of_->owner_.get(), low_.kind, bytes_of(low_.key), low_.key.size(), high_.kind, bytes_of(high_.key), high_.key.size(), made->keys.data(), made->keys.size(), made->entries.data(), most, &made->count);
       if (inside::done(answer) || answer != TREE_INDEX_NO_ROOM) break;
       made->keys.resize(made->count);
     }
@@ -447,6 +457,7 @@ class byte_index::iterator {
     (descends_ ? high_ : low_) = byte_bound::excluding(bytes.substr(before, made->entries[last].length));
     page_ = std::move(made);
     at_ = from_ = 0;
+    asked_ = most;
   }
 
 public:
@@ -458,13 +469,17 @@ public:
   using reference = value_type;
 
   iterator() = default;
-  iterator(const byte_index *of, bool descends, byte_bound low, byte_bound high, std::size_t first = inside::most_ahead) : of_(of), descends_(descends), low_(std::move(low)), high_(std::move(high)) { read(first); }
+  iterator(const byte_index *of, bool descends, byte_bound low, byte_bound high, std::size_t first = inside::first_ahead) : of_(of), descends_(descends), low_(std::move(low)), high_(std::move(high)) { read(first); }
 
+  // The key and the value without a copy of the key. The view is of what was read ahead: it ends with the next step of the
+  // walk and of its copies.
+  std::string_view key() const noexcept { return {reinterpret_cast<const char *>(page_->keys.data()) + from_, entry().length}; }
+  uint64_t value() const noexcept { return entry().value; }
   reference operator*() const { return {std::string(key()), entry().value}; }
   pointer operator->() const { return {**this}; }
   iterator &operator++() {
     if (at_ + 1 == page_->count) {
-      read(inside::most_ahead);
+      read(inside::more_than(asked_, inside::most_keys_ahead));
     } else {
       from_ += entry().length;
       at_++;
@@ -498,6 +513,37 @@ inline byte_index::range_type byte_index::reversed(byte_bound low, byte_bound hi
 inline byte_index::range_type byte_index::prefix(std::string_view prefix) const { return range(byte_bound::including(prefix), byte_bound::end_of(prefix)); }
 inline byte_index::iterator byte_index::lower_bound(std::string_view key) const { return iterator(this, false, byte_bound::including(key), {}, inside::few_ahead); }
 inline byte_index::iterator byte_index::upper_bound(std::string_view key) const { return iterator(this, false, byte_bound::excluding(key), {}, inside::few_ahead); }
+
+// An index that can't be changed, and that threads read at once without a lock: each has a copy of this object for itself. A
+// copy shares the pairs, and allocates one block. `*` and `->` lead to the index.
+template <class Index> class frozen {
+  Index index_;
+
+  static Index freeze(Index &&index) {
+    inside::done(tree_index_freeze(index.owner_.get()));
+    return std::move(index);
+  }
+
+public:
+  // Takes an index over. If it cannot allocate, it throws, and the index is as it was.
+  explicit frozen(Index &&index) : index_(freeze(std::move(index))) {}
+  frozen(const frozen &other) : index_(typename Index::closed{}) { inside::done(tree_index_share(other.index_.owner_.get(), index_.owner_.get())); }
+  frozen(frozen &&) noexcept = default;
+  frozen &operator=(frozen other) noexcept {
+    index_.swap(other.index_);
+    return *this;
+  }
+
+  const Index &operator*() const noexcept { return index_; }
+  const Index *operator->() const noexcept { return &index_; }
+
+  // The index, to be changed again, or nothing if another object shares it: `std::move(it).thaw()`. Copies no pair. For a
+  // copy of the pairs, call `copy()` of the index.
+  std::optional<Index> thaw() && {
+    if (!inside::done(tree_index_thaw(index_.owner_.get()))) return std::nullopt;
+    return std::move(index_);
+  }
+};
 
 } // namespace tree_index
 

@@ -15,13 +15,13 @@ static void same_key(const uint8_t *bytes, size_t length, uint64_t value, size_t
   WANT(at < m.count && length == m.keys[at].length && memcmp(bytes, m.keys[at].bytes, length) == 0 && value == m.values[at]);
 }
 
-typedef uint8_t (*by_place)(tree_index_handle *, uint8_t *, size_t, tree_index_entry *);
-typedef uint8_t (*by_key)(tree_index_handle *, const uint8_t *, size_t, uint8_t *, size_t, tree_index_entry *);
+typedef int (*by_place)(tree_index_handle *, uint8_t *, size_t, tree_index_entry *);
+typedef int (*by_key)(tree_index_handle *, const uint8_t *, size_t, uint8_t *, size_t, tree_index_entry *);
 
 static void same_entry(by_place end, by_key near, const key_of_bytes *sought, size_t at) {
   uint8_t bytes[31], places = (uint8_t)below(31);
   tree_index_entry entry = {77, 0};
-  uint8_t answer = end ? end(&index_, bytes, places, &entry) : near(&index_, sought->bytes, sought->length, bytes, places, &entry);
+  int answer = end ? end(&index_, bytes, places, &entry) : near(&index_, sought->bytes, sought->length, bytes, places, &entry);
   if (at >= m.count) {
     WANT(answer == TREE_INDEX_NO && entry.length == 77);
     return;
@@ -35,7 +35,7 @@ static void fills(uint8_t low_kind, const key_of_bytes *low, uint8_t high_kind, 
   uint8_t keys[400];
   tree_index_entry entries[50];
   size_t from = range_begin(&m, low_kind, low), to = range_end(&m, high_kind, high), room = below(400), most = below(50), count = 999, used = 0, want = 0;
-  uint8_t answer = (descends ? tree_index_bytes_fill_back : tree_index_bytes_fill)(&index_, low_kind, low->bytes, low->length, high_kind, high->bytes, high->length, keys, room, entries, most, &count);
+  int answer = (descends ? tree_index_bytes_fill_back : tree_index_bytes_fill)(&index_, low_kind, low->bytes, low->length, high_kind, high->bytes, high->length, keys, room, entries, most, &count);
   while (want < most && from + want < to) {
     size_t at = descends ? to - 1 - want : from + want;
     if (used + m.keys[at].length > room) break;
@@ -63,7 +63,7 @@ static void prefixed(const key_of_bytes *prefix, int removes) {
   size_t from = place(&m, prefix), to = from, count = 999;
   while (to < m.count && begins_with(&m.keys[to], prefix)) to++;
   key_of_bytes end = {99, {0}}, none = {99, {0}};
-  uint8_t answer = tree_index_bytes_prefix_end(prefix->bytes, prefix->length, end.bytes, 31, &end.length);
+  int answer = tree_index_bytes_prefix_end(prefix->bytes, prefix->length, end.bytes, 31, &end.length);
   if (answer == TREE_INDEX_NO) {
     WANT(to == m.count && end.length == 99);
     for (size_t at = 0; at < prefix->length; at++) WANT(prefix->bytes[at] == 255);
@@ -83,7 +83,7 @@ static void call(size_t longest, uint64_t letters) {
   uint64_t value = draw() | 1, told = 0;
   size_t at = place(&m, &key);
   int is = is_at(&m, at, &key);
-  uint8_t yes_if = is ? TREE_INDEX_YES : TREE_INDEX_NO;
+  int yes_if = is ? TREE_INDEX_YES : TREE_INDEX_NO;
   switch (below(14)) {
   case 0: case 1: case 2:
     WANT(tree_index_bytes_insert(&index_, key.bytes, key.length, value) == (is ? TREE_INDEX_NO : TREE_INDEX_YES));
@@ -118,7 +118,7 @@ static void call(size_t longest, uint64_t letters) {
     uint8_t bytes[31], places = (uint8_t)below(31);
     tree_index_entry entry = {77, 0};
     size_t which = last ? m.count - 1 : 0;
-    uint8_t answer = (last ? tree_index_bytes_pop_last : tree_index_bytes_pop_first)(&index_, bytes, places, &entry);
+    int answer = (last ? tree_index_bytes_pop_last : tree_index_bytes_pop_first)(&index_, bytes, places, &entry);
     if (m.count == 0) {
       WANT(answer == TREE_INDEX_NO && entry.length == 77);
       break;

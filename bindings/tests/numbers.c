@@ -4,7 +4,7 @@
 static model m;
 static tree_index_handle index_ = TREE_INDEX_CLOSED;
 
-static void same_pair(uint8_t answer, const tree_index_pair *pair, size_t at) {
+static void same_pair(int answer, const tree_index_pair *pair, size_t at) {
   WANT(answer == (at < m.count ? TREE_INDEX_YES : TREE_INDEX_NO));
   if (at >= m.count) return;
   key_of_bytes key = of_number(pair->key);
@@ -32,7 +32,7 @@ static void many(uint64_t keys) {
     numbers[at] = below(keys);
     values[at] = found[at] = 77;
   }
-  uint8_t answer = tree_index_peek_many(&index_, numbers, count, values, places, found, marks);
+  int answer = tree_index_peek_many(&index_, numbers, count, values, places, found, marks);
   size_t done = count <= places && count <= marks ? count : 0;
   WANT(answer == (done == count ? TREE_INDEX_YES : TREE_INDEX_NO_ROOM));
   for (size_t n = 0; n < done; n++) {

@@ -137,6 +137,10 @@ static void byte_strings(size_t longest, int calls) {
       if (other < key) std::swap(key, other);
       auto from = map.lower_bound(key), to = map.upper_bound(other);
       same(index.range(tree_index::byte_bound::including(key), tree_index::byte_bound::including(other)), from, to);
+      {
+        auto walk = index.lower_bound(key);
+        for (auto it = from; it != to; ++it, ++walk) WANT(walk.key() == it->first && walk.value() == it->second);
+      }
       same(index.reversed(tree_index::byte_bound::including(key), tree_index::byte_bound::including(other)), std::make_reverse_iterator(to), std::make_reverse_iterator(from));
       same_from(index.lower_bound(key), index.end(), from, map.end());
       same_from(index.upper_bound(other), index.end(), to, map.end());

@@ -20,11 +20,11 @@ void __wrap_tree_index_free(tree_index_handle *handle) { memset(handle, 0, sizeo
 #endif
 
 #ifdef BUG_tree_index_remove
-uint8_t __real_tree_index_remove(tree_index_handle *, uint64_t);
+int __real_tree_index_remove(tree_index_handle *, uint64_t);
 
 /* Says yes for no. */
-uint8_t __wrap_tree_index_remove(tree_index_handle *handle, uint64_t key) {
-  uint8_t answer = __real_tree_index_remove(handle, key);
+int __wrap_tree_index_remove(tree_index_handle *handle, uint64_t key) {
+  int answer = __real_tree_index_remove(handle, key);
   return answer == TREE_INDEX_YES ? TREE_INDEX_NO : answer == TREE_INDEX_NO ? TREE_INDEX_YES : answer;
 }
 #endif

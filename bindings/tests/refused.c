@@ -37,10 +37,10 @@ static const uint8_t *bytes_of(uint64_t key, uint8_t *room) {
 
 /* A call that answers NO_MEMORY was refused and changed nothing, and succeeds the second time. Another that was refused got
  * by with less, as one that asked for room for all pairs at once, and did what it does with ample memory. */
-static void again(int is_bytes, uint8_t (*call)(int, uint64_t), uint64_t key) {
+static void again(int is_bytes, int (*call)(int, uint64_t), uint64_t key) {
   size_t before = tree_index_len(&index_);
   long was = refusals;
-  uint8_t answer = call(is_bytes, key);
+  int answer = call(is_bytes, key);
   if (answer == TREE_INDEX_NO_MEMORY) {
     WANT(refusals > was);
     WANT(tree_index_len(&index_) == before);
@@ -51,35 +51,35 @@ static void again(int is_bytes, uint8_t (*call)(int, uint64_t), uint64_t key) {
   WANT(answer == TREE_INDEX_YES);
 }
 
-static uint8_t opens(int is_bytes, uint64_t key) {
+static int opens(int is_bytes, uint64_t key) {
   (void)key;
   return (is_bytes ? tree_index_bytes_new : tree_index_new)(&index_);
 }
 
-static uint8_t inserts(int is_bytes, uint64_t key) {
+static int inserts(int is_bytes, uint64_t key) {
   uint8_t room[24];
   return is_bytes ? tree_index_bytes_insert(&index_, bytes_of(key, room), 24, key) : tree_index_insert(&index_, key, key);
 }
 
-static uint8_t upserts(int is_bytes, uint64_t key) {
+static int upserts(int is_bytes, uint64_t key) {
   uint8_t room[24];
   return is_bytes ? tree_index_bytes_upsert(&index_, bytes_of(key, room), 24, key) : tree_index_upsert(&index_, key, key);
 }
 
-static uint8_t takes(int is_bytes, uint64_t key) {
+static int takes(int is_bytes, uint64_t key) {
   uint8_t room[24];
   uint64_t value = 0;
-  uint8_t answer = is_bytes ? tree_index_bytes_take(&index_, bytes_of(key, room), 24, &value) : tree_index_take(&index_, key, &value);
+  int answer = is_bytes ? tree_index_bytes_take(&index_, bytes_of(key, room), 24, &value) : tree_index_take(&index_, key, &value);
   WANT(answer != TREE_INDEX_YES || value == key);
   return answer;
 }
 
-static uint8_t copies(int is_bytes, uint64_t key) {
+static int copies(int is_bytes, uint64_t key) {
   (void)is_bytes, (void)key;
   return tree_index_copy(&index_, &copy);
 }
 
-static uint8_t builds(int is_bytes, uint64_t count) {
+static int builds(int is_bytes, uint64_t count) {
   uint8_t keys[40 * 24];
   tree_index_entry entries[40];
   tree_index_pair pairs[40];
@@ -92,29 +92,29 @@ static uint8_t builds(int is_bytes, uint64_t count) {
   return is_bytes ? tree_index_bytes_from_sorted(&built, keys, count * 24, entries, count) : tree_index_from_sorted(&built, pairs, count);
 }
 
-static uint8_t fills(int is_bytes, uint64_t key) {
+static int fills(int is_bytes, uint64_t key) {
   uint8_t low[24], high[24], keys[240];
   tree_index_entry entries[10];
   tree_index_pair pairs[10];
   size_t count = 0;
   if (!is_bytes) return tree_index_fill(&index_, TREE_INDEX_INCLUDED, key, TREE_INDEX_UNBOUNDED, 0, pairs, 10) > 0 && pairs[0].key >= key;
-  uint8_t answer = tree_index_bytes_fill(&index_, TREE_INDEX_INCLUDED, bytes_of(key, low), 24, TREE_INDEX_EXCLUDED, bytes_of(KEYS, high), 24, keys, 240, entries, 10, &count);
+  int answer = tree_index_bytes_fill(&index_, TREE_INDEX_INCLUDED, bytes_of(key, low), 24, TREE_INDEX_EXCLUDED, bytes_of(KEYS, high), 24, keys, 240, entries, 10, &count);
   WANT(answer != TREE_INDEX_YES || (count > 0 && entries[0].length == 24 && memcmp(keys, low, 24) >= 0));
   return answer;
 }
 
-static uint8_t cuts(int is_bytes, uint64_t key) {
+static int cuts(int is_bytes, uint64_t key) {
   uint8_t low[24], high[24];
   return is_bytes ? tree_index_bytes_remove_range(&index_, TREE_INDEX_INCLUDED, bytes_of(key, low), 24, TREE_INDEX_EXCLUDED, bytes_of(key + 40, high), 24)
                   : tree_index_remove_range(&index_, TREE_INDEX_INCLUDED, key, TREE_INDEX_EXCLUDED, key + 40);
 }
 
 /* Removes the keys that begin as this one does. */
-static uint8_t cuts_alike(int is_bytes, uint64_t key) {
+static int cuts_alike(int is_bytes, uint64_t key) {
   uint8_t prefix[24], end[24];
   size_t length = 0, count = 0;
   if (!is_bytes) return tree_index_remove_range(&index_, TREE_INDEX_INCLUDED, key, TREE_INDEX_EXCLUDED, key + 256);
-  uint8_t answer = tree_index_bytes_prefix_end(bytes_of(key, prefix), 23, end, 24, &length);
+  int answer = tree_index_bytes_prefix_end(bytes_of(key, prefix), 23, end, 24, &length);
   if (answer != TREE_INDEX_YES) return answer;
   WANT(length == 23 && end[22] == prefix[22] + 1);
   answer = tree_index_bytes_remove_prefix(&index_, prefix, 23, &count);

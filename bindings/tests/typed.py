@@ -17,6 +17,9 @@ begin: Iterator[bytes] = sizes.iprefix(b"a")
 begun: List[Tuple[bytes, float]] = sizes.pop_prefix(b"a")
 both: TreeIndex[int, str] = prices | {107: "three"}
 place: int = prices.keys()[0]
+names: TreeIndex[str, int] = TreeIndex({"one": 1})
+named: Iterator[str] = names.iprefix("o")
+before: int = names.bisect_left("p")
 places: List[Tuple[int, str]] = prices.items()[-2:]
 backwards: Iterator[str] = reversed(prices.values())
 
@@ -24,4 +27,4 @@ prices[101:104]  # type: ignore[index]
 prices[b"x"]  # type: ignore[index]
 prices.iprefix(b"x")  # type: ignore[misc]
 sizes[b"x"] = "large"  # type: ignore[assignment]
-names: TreeIndex[str, int]  # type: ignore[type-var]
+weights: TreeIndex[float, int]  # type: ignore[type-var]

@@ -16,6 +16,7 @@ use crate::bytes::writes::{
 };
 use crate::copies::tree_index_copy;
 use crate::entry::Entry;
+use crate::frozen::{tree_index_freeze, tree_index_share, tree_index_thaw};
 use crate::handle::Handle;
 use crate::handles::{tree_index_depth, tree_index_free, tree_index_len};
 use crate::numbers::ranges::{tree_index_fill, tree_index_fill_back};
@@ -68,6 +69,8 @@ enum Call {
     RemovePrefix(u64),
     FromSorted(u64),
     Copy,
+    Freeze,
+    Share,
 }
 
 /// The places that a call may write to.
@@ -143,6 +146,8 @@ fn name_of(call: Call, is_bytes: bool) -> &'static str {
         Call::FromSorted(_) if is_bytes => "tree_index_bytes_from_sorted",
         Call::FromSorted(_) => "tree_index_from_sorted",
         Call::Copy => "tree_index_copy",
+        Call::Freeze => "tree_index_freeze",
+        Call::Share => "tree_index_share",
     }
 }
 
@@ -188,7 +193,7 @@ fn is_blank(entry: Entry) -> bool {
 
 impl<R: Abort> Subject<'_, R> {
     /// Makes a call and returns its answer.
-    fn made(&mut self, call: Call) -> u8 {
+    fn made(&mut self, call: Call) -> i32 {
         self.places = Places::blank();
         begins(self.alloc, name_of(call, self.is_bytes));
         let answer = if self.is_bytes {
@@ -200,7 +205,7 @@ impl<R: Abort> Subject<'_, R> {
         answer
     }
 
-    fn made_of_numbers(&mut self, call: Call) -> u8 {
+    fn made_of_numbers(&mut self, call: Call) -> i32 {
         let alloc = self.alloc;
         match call {
             Call::New => tree_index_new(alloc, &mut self.handle),
@@ -217,11 +222,13 @@ impl<R: Abort> Subject<'_, R> {
                 };
                 tree_index_from_sorted(alloc, opened, &self.room.pairs[..count as usize])
             }
+            Call::Freeze => tree_index_freeze(alloc, &mut self.handle),
+            Call::Share => tree_index_share(alloc, &mut self.handle, &mut self.other),
             _ => tree_index_copy(alloc, &mut self.handle, &mut self.other),
         }
     }
 
-    fn made_of_bytes(&mut self, call: Call) -> u8 {
+    fn made_of_bytes(&mut self, call: Call) -> i32 {
         let alloc = self.alloc;
         let handle = &mut self.handle;
         let places = &mut self.places;
@@ -341,6 +348,8 @@ impl<R: Abort> Subject<'_, R> {
                 )
             }
             Call::Copy => tree_index_copy(alloc, handle, &mut self.other),
+            Call::Freeze => tree_index_freeze(alloc, handle),
+            Call::Share => tree_index_share(alloc, handle, &mut self.other),
         }
     }
 
@@ -374,7 +383,7 @@ impl<R: Abort> Subject<'_, R> {
     }
 
     /// Whether an answer is that of the vector, which then changes as the index did.
-    fn accepts(&mut self, call: Call, answer: u8) -> bool {
+    fn accepts(&mut self, call: Call, answer: i32) -> bool {
         match call {
             Call::New => answer == YES,
             Call::Insert(key, value) => {
@@ -453,12 +462,13 @@ impl<R: Abort> Subject<'_, R> {
                 }
                 answer == YES
             }
-            Call::Copy => answer == YES && self.other_is_a_copy(),
+            Call::Copy | Call::Share => answer == YES && self.other_is_a_copy(),
+            Call::Freeze => answer == YES,
         }
     }
 
     /// Whether a call found this pair.
-    fn found(&self, answer: u8, pair: Option<(u64, u64)>) -> bool {
+    fn found(&self, answer: i32, pair: Option<(u64, u64)>) -> bool {
         match pair {
             Some(pair) => answer == YES && self.places.have(pair),
             None => answer == NO && self.places.are_blank(),
@@ -679,6 +689,10 @@ fn of_either<R: Abort>(subject: &mut Subject<'_, R>) -> Result<(), AllocError> {
     subject.step(Call::Upsert(5, 6))?;
     subject.step(Call::Upsert(50, 6))?;
     subject.step(Call::Copy)?;
+    subject.step(Call::Freeze)?;
+    subject.step(Call::Share)?;
+    subject.step(Call::Copy)?;
+    assert!(subject.rt; tree_index_thaw(subject.alloc, &mut subject.handle) == YES);
     subject.step(Call::FromSorted(40))
 }
 

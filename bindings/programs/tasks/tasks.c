@@ -45,7 +45,7 @@ static tree_index_handle owners = TREE_INDEX_CLOSED;
 /* Registers a name for an owner, under the lock. Returns whether the name was free. */
 static int register_name(uint64_t name, uint64_t owner) {
   pthread_mutex_lock(&lock);
-  uint8_t answer = tree_index_insert(&owners, name, owner);
+  int answer = tree_index_insert(&owners, name, owner);
   pthread_mutex_unlock(&lock);
   return answer == TREE_INDEX_YES;
 }

@@ -8,6 +8,7 @@ import os
 import pickle
 import random
 import sys
+import threading
 
 import tree_index
 from tree_index import TreeIndex
@@ -33,6 +34,10 @@ def number(chance, keys):
 
 def word(chance, keys):
     return bytes(chance.choice((0, 100, 255)) for _ in range(chance.randrange(keys)))
+
+
+def name(chance, keys):
+    return "".join(chance.choice("\0a\u00e9\ud800\uffff\U0001f600") for _ in range(chance.randrange(keys)))
 
 
 def compare(kind, key_of, keys, calls):
@@ -66,12 +71,14 @@ def compare(kind, key_of, keys, calls):
         elif which == 12 and chance.random() < 0.05:
             gone = [(k, plain.pop(k)) for k in sorted(plain) if key <= k <= other]
             assert index.pop_range(key, other) == gone
-        elif which == 13 and type(key) is bytes:
+        elif which == 13 and type(key) is not int:
             begin = [k for k in sorted(plain) if k.startswith(key)]
             assert list(index.iprefix(key)) == begin and list(index.iprefix(key, reverse=True)) == begin[::-1]
             assert list(index.iprefix_items(key)) == [(k, plain[k]) for k in begin]
             if chance.random() < 0.05:
                 assert index.pop_prefix(key) == [(k, plain.pop(k)) for k in begin]
+        elif call % 97 == 0:
+            assert (index.bisect_left(key), index.bisect_right(key)) == (sum(k < key for k in plain), sum(k <= key for k in plain))
         elif call % 997 == 0:
             assert index == plain and index.copy() == plain and list(index) == sorted(plain)
     assert list(index.items()) == sorted(plain.items()) and list(index.values()) == [plain[k] for k in sorted(plain)]
@@ -89,6 +96,12 @@ def test_bytes():
         compare(f"bytes, fewer than {keys}", word, keys, 20_000)
 
 
+def test_strings():
+    for keys in (4, 7):
+        compare(f"strs, shorter than {keys}", name, keys, 20_000)
+    assert TreeIndex(b=2, a=1) == TreeIndex({"a": 1}, b=2) == {"a": 1, "b": 2}
+
+
 def test_long_keys():
     index = TreeIndex((bytes([65 + n]) * (3000 * n + 1), n) for n in range(20))
     assert [len(key) for key in index] == [3000 * n + 1 for n in range(20)]
@@ -97,12 +110,12 @@ def test_long_keys():
 
 
 def test_many_keys():
-    for key_of in (lambda n: n - 50, lambda n: b"%04d" % n):
+    for key_of in (lambda n: n - 50, lambda n: b"%04d" % n, lambda n: f"{n:04}\u00e9"):
         index = TreeIndex((key_of(n), n) for n in range(0, 300, 3))
         for count in (0, 1, 63, 64, 65, 300):
             assert index.get_many([key_of(n) for n in range(count)]) == [None if n % 3 else n for n in range(count)]
             assert index.get_many((key_of(n) for n in range(count)), -1) == [-1 if n % 3 else n for n in range(count)]
-        assert refused(TypeError, index.get_many, [1, b"x"]) and refused(TypeError, index.get_many, 5)
+        assert refused(TypeError, index.get_many, [1, b"x", "x"]) and refused(TypeError, index.get_many, 5)
     index = TreeIndex({-1: "a", 5: "b", 2**63 - 1: "c"})
     for kind in "ql":
         assert index.get_many(array.array(kind, [5, -1, 2, 2**63 - 1] * 40)) == ["b", "a", None, "c"] * 40
@@ -124,7 +137,10 @@ def test_prefixes():
     index.pop_prefix(b"b")
     assert refused(RuntimeError, next, walk)
     assert refused(TypeError, index.iprefix, 1) and refused(TypeError, index.pop_prefix, "a") and refused(TypeError, TreeIndex({1: 1}).iprefix, b"a")
-    assert list(TreeIndex().iprefix(b"a")) == [] and TreeIndex().pop_prefix(b"a") == []
+    assert list(TreeIndex().iprefix(b"a")) == [] and TreeIndex().pop_prefix("a") == []
+    names = TreeIndex((name, 0) for name in ("", "\u00e9", "\u00e9a", "\u00ea", "\U0010ffff", "\U0010ffff!"))
+    assert list(names.iprefix("\u00e9")) == ["\u00e9", "\u00e9a"] and list(names.iprefix("\U0010ffff")) == ["\U0010ffff", "\U0010ffff!"]
+    assert refused(TypeError, names.iprefix, b"a") and names.pop_prefix("\u00e9") == [("\u00e9", 0), ("\u00e9a", 0)]
 
 
 def test_places():
@@ -173,6 +189,8 @@ def test_keys_that_do_not_fit():
     assert refused(TypeError, index.__getitem__, b"x") and refused(TypeError, index.get, 1.5)
     assert refused(OverflowError, index.__setitem__, 2**63, 1) and refused(KeyError, index.__getitem__, 2**70)
     assert 2**70 not in index and index.get(-(2**80), 5) == 5 and refused(KeyError, index.__delitem__, 7)
+    names = TreeIndex({"x": 1})
+    assert all(refused(TypeError, call, key) for key in (b"x", 1) for call in (names.__getitem__, names.setdefault, names.at_or_above, names.pop))
     index[2**63 - 1], index[-(2**63)] = "most", "least"
     assert list(index) == [-(2**63), 1, 2**63 - 1]
     assert list(index.irange(-(2**70), 2**70)) == list(index) and list(index.irange(2**70)) == [] and list(index.irange(None, -(2**70))) == []
@@ -183,9 +201,12 @@ def test_keys_are_plain():
     class Name(bytes):
         pass
 
-    numbers, names = TreeIndex({True: "yes"}), TreeIndex({Name(b"x"): 1})
-    assert [type(key) for key in numbers] == [int] and [type(key) for key in names] == [bytes]
-    assert numbers[1] == "yes" and names[b"x"] == 1
+    class Title(str):
+        pass
+
+    numbers, names, titles = TreeIndex({True: "yes"}), TreeIndex({Name(b"x"): 1}), TreeIndex({Title("x"): 1})
+    assert [type(key) for key in (*numbers, *names, *titles)] == [int, bytes, str]
+    assert numbers[1] == "yes" and names[b"x"] == 1 and titles["x"] == 1
 
 
 def test_a_walk_meets_a_write():
@@ -197,6 +218,53 @@ def test_a_walk_meets_a_write():
         assert refused(RuntimeError, next, walk)
     index = TreeIndex({1: 1})
     assert list(index) == [1]
+
+
+def test_a_frozen_index_takes_no_write():
+    for keys in (range(300), [b"%03d" % key for key in range(300)], []):
+        index = TreeIndex((key, key) for key in keys)
+        before = list(index.items())
+        key = keys[7] if keys else 7
+        index.freeze()
+        index.freeze()
+        assert index.is_frozen and list(index.items()) == before
+        writes = (
+            lambda: index.__setitem__(key, 1),
+            lambda: index.__delitem__(key),
+            lambda: index.setdefault(key, 1),
+            lambda: index.pop(key, None),
+            lambda: index.pop_range(),
+            lambda: index.update({key: 1}),
+            index.clear,
+        )
+        assert all(refused(TypeError, write) for write in writes)
+        assert not keys or refused(TypeError, index.popitem)
+        assert not isinstance(key, bytes) or refused(TypeError, index.pop_prefix, b"0")
+        assert list(index.items()) == before and list(reversed(index)) == [it for it, _ in reversed(before)]
+        copied = index.copy()
+        copied[key] = None
+        assert not copied.is_frozen and list(index.items()) == before
+        index.thaw()
+        index.thaw()
+        index[key] = None
+        assert index[key] is None and not index.is_frozen
+
+
+def test_threads_read_a_frozen_index():
+    index = TreeIndex((key, str(key)) for key in range(5000))
+    index.freeze()
+    found = []
+
+    def read(seed):
+        chance = random.Random(seed)
+        found.append(all(index[key] == str(key) and index.at_or_above(key)[0] == key for key in (chance.randrange(5000) for _ in range(3000))))
+
+    threads = [threading.Thread(target=read, args=(seed,)) for seed in range(4)]
+    for thread in threads:
+        thread.start()
+    for thread in threads:
+        thread.join()
+    assert found == [True] * 4
 
 
 def test_pickles_and_copies():

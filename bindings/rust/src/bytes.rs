@@ -6,9 +6,9 @@ use std::ops::{Bound, RangeBounds};
 use crate::handle::{Entry, Handle, InsertError, OutOfMemory, Owner};
 use crate::raw;
 
-/// How many pairs an iterator reads ahead, and the bytes of their keys at first.
-const AHEAD: usize = 64;
-const ROOM: usize = 2048;
+/// How many pairs an iterator reads first. Each time it reads twice as many, up to the most.
+const FIRST_AHEAD: usize = 16;
+const MOST_AHEAD: usize = 64;
 
 /// An ordered index of byte strings by numbers, in the order of `[u8]`.
 ///
@@ -27,7 +27,7 @@ const ROOM: usize = 2048;
 /// # }
 /// ```
 pub struct ByteIndex {
-    owner: Owner,
+    pub(crate) owner: Owner,
 }
 
 impl ByteIndex {
@@ -185,7 +185,7 @@ impl ByteIndex {
     }
 
     /// Panics if memory for a key is refused, as `Vec` does.
-    fn pair_by(&self, call: impl Fn(*mut Handle, *mut u8, usize, *mut Entry) -> u8) -> Option<(Vec<u8>, u64)> {
+    fn pair_by(&self, call: impl Fn(*mut Handle, *mut u8, usize, *mut Entry) -> i32) -> Option<(Vec<u8>, u64)> {
         let (mut key, mut entry) = (vec![0; 64], Entry::default());
         loop {
             match call(self.owner.get(), key.as_mut_ptr(), key.len(), &mut entry) {
@@ -260,10 +260,32 @@ fn end_of(prefix: &[u8]) -> Result<Bound<Vec<u8>>, OutOfMemory> {
     }
 }
 
-/// Pairs that were read ahead, the next one last.
+/// Pairs that were read ahead of one end: the bytes of one key after another, and the length and the value of each.
 #[derive(Default)]
 struct Ahead {
-    pairs: Vec<(Vec<u8>, u64)>,
+    keys: Vec<u8>,
+    entries: Vec<Entry>,
+    /// How many entries were given, and where the key of the last of them begins and ends.
+    given: usize,
+    last: std::ops::Range<usize>,
+    /// How many were asked for.
+    asked: usize,
+}
+
+impl Ahead {
+    /// Goes to the next entry, if there is one.
+    fn step(&mut self) -> bool {
+        let Some(entry) = self.entries.get(self.given) else { return false };
+        self.last = self.last.end..self.last.end + entry.length;
+        self.given += 1;
+        true
+    }
+
+    /// The entry that was given last.
+    fn pair(&self) -> Option<(&[u8], u64)> {
+        let entry = self.entries.get(self.given.checked_sub(1)?)?;
+        Some((&self.keys[self.last.clone()], entry.value))
+    }
 }
 
 /// The pairs within two bounds. It reads up to 64 ahead from each end.
@@ -277,17 +299,54 @@ pub struct ByteRange<'t> {
     back: Ahead,
 }
 
-type Fill = unsafe extern "C" fn(*mut Handle, u8, *const u8, usize, u8, *const u8, usize, *mut u8, usize, *mut Entry, usize, *mut usize) -> u8;
+type Fill = unsafe extern "C" fn(*mut Handle, u8, *const u8, usize, u8, *const u8, usize, *mut u8, usize, *mut Entry, usize, *mut usize) -> i32;
 
 impl ByteRange<'_> {
-    fn read(&self, fill: Fill) -> Ahead {
-        let ((low_kind, low), (high_kind, high)) = (kind_of(self.low.as_ref()), kind_of(self.high.as_ref()));
-        let (mut keys, mut entries, mut count) = (vec![0; ROOM], [Entry::default(); AHEAD], 0);
+    /// Returns the next pair, whose key lies among those that were read ahead: nothing is copied, and nothing is allocated
+    /// for a key. [`next`](Iterator::next) copies it.
+    ///
+    /// ```
+    /// # use tree_index::ByteIndex;
+    /// let words: ByteIndex = [("plum", 1), ("plus", 2), ("pull", 3)].into_iter().collect();
+    /// let (mut walk, mut letters) = (words.iter(), 0);
+    /// while let Some((word, _)) = walk.next_view() {
+    ///     letters += word.len();
+    /// }
+    /// assert_eq!(letters, 12);
+    /// ```
+    pub fn next_view(&mut self) -> Option<(&[u8], u64)> {
+        if !self.front.step() {
+            self.front = self.read(&self.front, raw::tree_index_bytes_fill)?;
+            self.front.step();
+        }
+        let (key, value) = self.front.pair()?;
+        // The other end may have given it since it was read.
+        let high = self.back.pair().map_or(self.high.as_ref().map(Vec::as_slice), |(key, _)| Bound::Excluded(key));
+        (Bound::Unbounded, high).contains(key).then_some((key, value))
+    }
+
+    /// Returns the next pair from the other end, as [`next_view`](ByteRange::next_view) does.
+    pub fn next_back_view(&mut self) -> Option<(&[u8], u64)> {
+        if !self.back.step() {
+            self.back = self.read(&self.back, raw::tree_index_bytes_fill_back)?;
+            self.back.step();
+        }
+        let (key, value) = self.back.pair()?;
+        let low = self.front.pair().map_or(self.low.as_ref().map(Vec::as_slice), |(key, _)| Bound::Excluded(key));
+        (low, Bound::Unbounded).contains(key).then_some((key, value))
+    }
+
+    /// What is between what both ends have given, or `None` if nothing is.
+    fn read(&self, end: &Ahead, fill: Fill) -> Option<Ahead> {
+        let (low_kind, low) = self.front.pair().map_or(kind_of(self.low.as_ref()), |(key, _)| (2, key));
+        let (high_kind, high) = self.back.pair().map_or(kind_of(self.high.as_ref()), |(key, _)| (2, key));
+        let asked = (2 * end.asked).clamp(FIRST_AHEAD, MOST_AHEAD);
+        let (mut keys, mut entries, mut count) = (vec![0; 32 * asked], vec![Entry::default(); asked], 0);
         loop {
             let answer = unsafe {
                 fill(
                     self.index.owner.get(), low_kind, low.as_ptr(), low.len(), high_kind, high.as_ptr(), high.len(),
-                    keys.as_mut_ptr(), keys.len(), entries.as_mut_ptr(), AHEAD, &mut count,
+                    keys.as_mut_ptr(), keys.len(), entries.as_mut_ptr(), asked, &mut count,
                 )
             };
             match answer {
@@ -296,16 +355,8 @@ impl ByteRange<'_> {
                 _ => panic!("{OutOfMemory}"),
             }
         }
-        let mut from = 0;
-        let mut pairs: Vec<_> = entries[..count]
-            .iter()
-            .map(|entry| {
-                from += entry.length;
-                (keys[from - entry.length..from].to_vec(), entry.value)
-            })
-            .collect();
-        pairs.reverse();
-        Ahead { pairs }
+        entries.truncate(count);
+        (count > 0).then_some(Ahead { keys, entries, given: 0, last: 0..0, asked })
     }
 }
 
@@ -313,30 +364,13 @@ impl Iterator for ByteRange<'_> {
     type Item = (Vec<u8>, u64);
 
     fn next(&mut self) -> Option<(Vec<u8>, u64)> {
-        if self.front.pairs.is_empty() {
-            self.front = self.read(raw::tree_index_bytes_fill);
-        }
-        let (key, value) = self.front.pairs.pop()?;
-        // The other end may have given it since it was read.
-        if !(Bound::Unbounded, self.high.as_ref()).contains(&key) {
-            return None;
-        }
-        self.low = Bound::Excluded(key.clone());
-        Some((key, value))
+        self.next_view().map(|(key, value)| (key.to_vec(), value))
     }
 }
 
 impl DoubleEndedIterator for ByteRange<'_> {
     fn next_back(&mut self) -> Option<(Vec<u8>, u64)> {
-        if self.back.pairs.is_empty() {
-            self.back = self.read(raw::tree_index_bytes_fill_back);
-        }
-        let (key, value) = self.back.pairs.pop()?;
-        if !(self.low.as_ref(), Bound::Unbounded).contains(&key) {
-            return None;
-        }
-        self.high = Bound::Excluded(key.clone());
-        Some((key, value))
+        self.next_back_view().map(|(key, value)| (key.to_vec(), value))
     }
 }
 

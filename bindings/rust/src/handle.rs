@@ -71,7 +71,7 @@ unsafe impl Send for Owner {}
 
 impl Owner {
     /// Opens a handle by a call that takes a closed one.
-    pub fn open(call: impl FnOnce(*mut Handle) -> u8) -> Result<Self, u8> {
+    pub fn open(call: impl FnOnce(*mut Handle) -> i32) -> Result<Self, i32> {
         let handle = UnsafeCell::new(Handle { at: ptr::null_mut(), is_open: false });
         match call(handle.get()) {
             raw::YES => Ok(Owner { handle }),

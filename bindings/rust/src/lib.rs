@@ -5,10 +5,12 @@
 #![warn(missing_docs)]
 
 mod bytes;
+mod frozen;
 mod handle;
 mod numbers;
 mod raw;
 
 pub use bytes::{ByteIndex, ByteRange};
+pub use frozen::{Frozen, FrozenView};
 pub use handle::{InsertError, OutOfMemory};
 pub use numbers::{Range, TreeIndex};

@@ -6,8 +6,9 @@ use std::ops::{Bound, RangeBounds};
 use crate::handle::{InsertError, OutOfMemory, Owner, Pair, kind_of};
 use crate::raw;
 
-/// How many pairs an iterator reads ahead.
-const AHEAD: usize = 64;
+/// How many pairs an iterator reads first. Each time it reads twice as many, up to the most.
+const FIRST_AHEAD: usize = 16;
+const MOST_AHEAD: usize = 512;
 
 /// An ordered index of numbers by numbers.
 ///
@@ -28,7 +29,7 @@ const AHEAD: usize = 64;
 /// # }
 /// ```
 pub struct TreeIndex {
-    owner: Owner,
+    pub(crate) owner: Owner,
 }
 
 impl TreeIndex {
@@ -107,7 +108,7 @@ impl TreeIndex {
     pub fn peek_many(&self, keys: &[u64]) -> Vec<Option<u64>> {
         let (mut values, mut found) = (vec![0; keys.len()], vec![0; keys.len()]);
         unsafe { raw::tree_index_peek_many(self.owner.get(), keys.as_ptr(), keys.len(), values.as_mut_ptr(), values.len(), found.as_mut_ptr(), found.len()) };
-        values.into_iter().zip(found).map(|(value, is)| (is == raw::YES).then_some(value)).collect()
+        values.into_iter().zip(found).map(|(value, is)| (is == 1).then_some(value)).collect()
     }
 
     /// Returns whether a key is present.
@@ -178,7 +179,7 @@ impl TreeIndex {
         pairs.into_iter().try_for_each(|(key, value)| self.upsert(key, value))
     }
 
-    fn pair_by(&self, call: impl FnOnce(*mut crate::handle::Handle, *mut Pair) -> u8) -> Option<(u64, u64)> {
+    fn pair_by(&self, call: impl FnOnce(*mut crate::handle::Handle, *mut Pair) -> i32) -> Option<(u64, u64)> {
         let mut pair = Pair::default();
         (call(self.owner.get(), &mut pair) == raw::YES).then_some((pair.key, pair.value))
     }
@@ -222,33 +223,75 @@ impl<'t> IntoIterator for &'t TreeIndex {
     }
 }
 
-/// Pairs that were read ahead.
+/// Pairs that were read ahead of one end.
 struct Ahead {
-    places: [Pair; AHEAD],
+    places: Vec<Pair>,
     at: usize,
-    count: usize,
+    /// How many were asked for. If fewer were there, no more are.
+    asked: usize,
 }
 
 impl Ahead {
-    fn new() -> Self {
-        Ahead { places: [Pair::default(); AHEAD], at: 0, count: 0 }
+    const fn new() -> Self {
+        Ahead { places: Vec::new(), at: 0, asked: 0 }
     }
 
     fn next(&mut self) -> Option<Pair> {
-        let pair = self.places[..self.count].get(self.at)?;
+        let pair = self.places.get(self.at)?;
         self.at += 1;
         Some(*pair)
     }
+
+    /// The key that was given last, if it is still here.
+    fn given(&self) -> Option<u64> {
+        Some(self.places.get(self.at.checked_sub(1)?)?.key)
+    }
+
+    /// Reads the next pairs by a call that takes places and how many there are, and returns how many it has written.
+    #[cold]
+    fn read(&mut self, fill: impl FnOnce(*mut Pair, usize) -> usize) -> Option<Pair> {
+        if self.places.len() < self.asked {
+            return None;
+        }
+        self.asked = (2 * self.asked).clamp(FIRST_AHEAD, MOST_AHEAD);
+        self.places.clear();
+        self.at = 0;
+        // Two blocks serve the longest walk.
+        self.places.reserve(if self.asked <= 64 { 64 } else { MOST_AHEAD });
+        let count = fill(self.places.as_mut_ptr(), self.asked);
+        // SAFETY: there are places for as many as were asked for, and the library has written the first `count` of them.
+        unsafe { self.places.set_len(count) };
+        self.next()
+    }
 }
 
-/// The pairs within two bounds. It reads 64 ahead from each end.
+/// The pairs within two bounds. It reads ahead from each end: 16 pairs first, then twice as many each time, up to 512.
 pub struct Range<'t> {
     index: &'t TreeIndex,
-    /// What neither end has given yet.
+    /// The bounds, or what an end had given when it read ahead last.
     low: Bound<u64>,
     high: Bound<u64>,
     front: Ahead,
     back: Ahead,
+}
+
+impl Range<'_> {
+    /// What neither end has given yet is within these.
+    fn left(&self) -> (Bound<u64>, Bound<u64>) {
+        (self.front.given().map_or(self.low, Bound::Excluded), self.back.given().map_or(self.high, Bound::Excluded))
+    }
+
+    fn read(&mut self) -> Option<Pair> {
+        (self.low, self.high) = self.left();
+        let ((low_kind, low), (high_kind, high), handle) = (kind_of(self.low), kind_of(self.high), self.index.owner.get());
+        self.front.read(|places, count| unsafe { raw::tree_index_fill(handle, low_kind, low, high_kind, high, places, count) })
+    }
+
+    fn read_back(&mut self) -> Option<Pair> {
+        (self.low, self.high) = self.left();
+        let ((low_kind, low), (high_kind, high), handle) = (kind_of(self.low), kind_of(self.high), self.index.owner.get());
+        self.back.read(|places, count| unsafe { raw::tree_index_fill_back(handle, low_kind, low, high_kind, high, places, count) })
+    }
 }
 
 impl Iterator for Range<'_> {
@@ -257,20 +300,27 @@ impl Iterator for Range<'_> {
     fn next(&mut self) -> Option<(u64, u64)> {
         let pair = match self.front.next() {
             Some(pair) => pair,
-            None => {
-                let ((low_kind, low), (high_kind, high)) = (kind_of(self.low), kind_of(self.high));
-                let (places, handle) = (&mut self.front.places, self.index.owner.get());
-                self.front.at = 0;
-                self.front.count = unsafe { raw::tree_index_fill(handle, low_kind, low, high_kind, high, places.as_mut_ptr(), AHEAD) };
-                self.front.next()?
-            }
+            None => self.read()?,
         };
         // The other end may have given it since it was read.
-        if !(Bound::Unbounded, self.high).contains(&pair.key) {
+        if self.back.asked > 0 && !(Bound::Unbounded, self.left().1).contains(&pair.key) {
             return None;
         }
-        self.low = Bound::Excluded(pair.key);
         Some((pair.key, pair.value))
+    }
+
+    fn fold<B, F: FnMut(B, (u64, u64)) -> B>(mut self, first: B, mut f: F) -> B {
+        let mut sum = first;
+        while let Some(pair) = self.next() {
+            sum = f(sum, pair);
+            if self.back.asked == 0 {
+                for pair in &self.front.places[self.front.at..] {
+                    sum = f(sum, (pair.key, pair.value));
+                }
+                self.front.at = self.front.places.len();
+            }
+        }
+        sum
     }
 }
 
@@ -278,18 +328,11 @@ impl DoubleEndedIterator for Range<'_> {
     fn next_back(&mut self) -> Option<(u64, u64)> {
         let pair = match self.back.next() {
             Some(pair) => pair,
-            None => {
-                let ((low_kind, low), (high_kind, high)) = (kind_of(self.low), kind_of(self.high));
-                let (places, handle) = (&mut self.back.places, self.index.owner.get());
-                self.back.at = 0;
-                self.back.count = unsafe { raw::tree_index_fill_back(handle, low_kind, low, high_kind, high, places.as_mut_ptr(), AHEAD) };
-                self.back.next()?
-            }
+            None => self.read_back()?,
         };
-        if !(self.low, Bound::Unbounded).contains(&pair.key) {
+        if self.front.asked > 0 && !(self.left().0, Bound::Unbounded).contains(&pair.key) {
             return None;
         }
-        self.high = Bound::Excluded(pair.key);
         Some((pair.key, pair.value))
     }
 }

@@ -43,6 +43,9 @@ fn ends<T>(chance: &mut Chance, mut pairs: impl DoubleEndedIterator<Item = T>, m
         let Some(pair) = (if turns.below(2) == 0 { pairs.next() } else { pairs.next_back() }) else { break };
         taken.push(pair);
     }
+    if turns.below(4) == 0 {
+        pairs.for_each(|pair| taken.push(pair));
+    }
     taken
 }
 

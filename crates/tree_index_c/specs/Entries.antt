@@ -1,12 +1,9 @@
 -- Keys that are strings of bytes, as C gets them: bytes in the first of some places, and an entry that has the length of the key.
-use Rattle.std.specs.Prelude.{◌≡◌, ◌≢◌, ◌⊎◌, ℕ, ◌+◌, ◌-◌, ◌<◌, ◌≤◌, Bool, true, false, List, [], ◌∷◌, ◌++◌, drop, length, map, min, take, Option, None, Some, Result, Ok, Err}
+use Rattle.std.specs.Prelude.{◌≡◌, ◌≢◌, ◌⊎◌, ℕ, ℤ, ◌+◌, ◌-◌, ◌<◌, ◌≤◌, Bool, true, false, List, [], ◌∷◌, ◌++◌, drop, length, map, min, take, Option, None, Some, Result, Ok, Err}
 use Rattle.std.specs.List.{flat_map}
 use Rattle.std.specs.declared.alloc.AllocError.{AllocError}
 use Rattle.std.specs.declared.ops.Bound.{Bound}
-use Rattle.std.specs.Cmp.Lexicographic.{slice_cmp}
-use Rattle.std.specs.Ordering.{nat_cmp}
 use Rattle.tree_index.specs.Index.{Index}
-use Rattle.tree_index_c.specs.Answers.{left_of}
 use Rattle.tree_index_c.specs.declared.entry.Entry.{Entry}
 use Rattle.tree_index_c.specs.declared.status.TheConstants.{NO, YES, NO_MEMORY, NO_ROOM}
 
@@ -20,22 +17,21 @@ abbrev pub entry_of : List ℕ × ℕ → Entry
 entry_of pair = record { length = length pair.0; value = pair.1 }
 
 -- What is there is written. Where the places are too few for the key, they stay.
-abbrev pub WritesEntry : Option (List ℕ × ℕ) → ℕ → List ℕ → List ℕ → Entry → Entry → Type 0
+abbrev pub WritesEntry : Option (List ℕ × ℕ) → ℤ → List ℕ → List ℕ → Entry → Entry → Type 0
 WritesEntry None answer before after entry_before entry_after = (answer ≡ NO) × (after ≡ before) × (entry_after ≡ entry_before)
 WritesEntry (Some pair) answer before after entry_before entry_after =
     (entry_after ≡ entry_of pair)
     × (((answer ≡ YES) × (length pair.0 ≤ length before) × (after ≡ pair.0 ++ drop (length pair.0) before)) ⊎ ((answer ≡ NO_ROOM) × (length before < length pair.0) × (after ≡ before)))
 
 -- the same, or an allocation failed
-abbrev pub FindsEntry : Option (List ℕ × ℕ) → ℕ → List ℕ → List ℕ → Entry → Entry → Type 0
+abbrev pub FindsEntry : Option (List ℕ × ℕ) → ℤ → List ℕ → List ℕ → Entry → Entry → Type 0
 FindsEntry found answer before after entry_before entry_after =
     WritesEntry found answer before after entry_before entry_after ⊎ ((answer ≡ NO_MEMORY) × (after ≡ before) × (entry_after ≡ entry_before))
 
--- The pair is written and removed, or it is neither. Or an allocation failed.
-abbrev pub PopsEntry : Option (List ℕ × ℕ) → Index (List ℕ) ℕ → ℕ → List ℕ → List ℕ → Entry → Entry → Index (List ℕ) ℕ → Type 0
-PopsEntry found old answer before after entry_before entry_after new =
-    (WritesEntry found answer before after entry_before entry_after × (answer ≡ YES → new.pairs ≡ left_of (slice_cmp nat_cmp) old.pairs found) × ((answer ≢ YES) → new ≡ old))
-    ⊎ ((answer ≡ NO_MEMORY) × (after ≡ before) × (entry_after ≡ entry_before) × (new ≡ old))
+-- The pair is written, and the others are left. Or it is neither written nor removed.
+abbrev pub PopsEntry : Option (List ℕ × ℕ) → List (List ℕ × ℕ) → Index (List ℕ) ℕ → ℤ → List ℕ → List ℕ → Entry → Entry → Index (List ℕ) ℕ → Type 0
+PopsEntry found others old answer before after entry_before entry_after new =
+    WritesEntry found answer before after entry_before entry_after × (answer ≡ YES → new.pairs ≡ others) × ((answer ≢ YES) → new ≡ old)
 
 -- the bytes of all keys, one after another
 abbrev pub joined : List (List ℕ × ℕ) → List ℕ
@@ -54,13 +50,13 @@ FillsBytes all keys_before keys_after entries_before entries_after (Err needed) 
     (map (λ pair. length pair.0) (take 1 all) ≡ needed ∷ []) × (length keys_before < needed) × (keys_after ≡ keys_before) × (entries_after ≡ entries_before)
 
 -- the same as an answer and a number, or an allocation failed
-abbrev pub FillsOrRefuses : List (List ℕ × ℕ) → ℕ → List ℕ → List ℕ → List Entry → List Entry → ℕ → ℕ → Type 0
+abbrev pub FillsOrRefuses : List (List ℕ × ℕ) → ℤ → List ℕ → List ℕ → List Entry → List Entry → ℕ → ℕ → Type 0
 FillsOrRefuses all answer keys_before keys_after entries_before entries_after count_before count_after =
     ((answer ≡ YES) × FillsBytes all keys_before keys_after entries_before entries_after (Ok count_after))
     ⊎ ((answer ≡ NO_ROOM) × FillsBytes all keys_before keys_after entries_before entries_after (Err count_after))
     ⊎ ((answer ≡ NO_MEMORY) × (keys_after ≡ keys_before) × (entries_after ≡ entries_before) × (count_after ≡ count_before))
 
 -- what holds of two bounds, or of a call that could not copy their keys
-abbrev pub IfBounds : Result (Bound (List ℕ) × Bound (List ℕ)) AllocError → ℕ → (Bound (List ℕ) → Bound (List ℕ) → Type 0) → Type 0 → Type 0
+abbrev pub IfBounds : Result (Bound (List ℕ) × Bound (List ℕ)) AllocError → ℤ → (Bound (List ℕ) → Bound (List ℕ) → Type 0) → Type 0 → Type 0
 IfBounds (Ok bounds) answer Holds Else = Holds bounds.0 bounds.1
 IfBounds (Err _) answer Holds Else = (answer ≡ NO_MEMORY) × Else

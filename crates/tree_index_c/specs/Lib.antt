@@ -1,5 +1,6 @@
 pub mod Answers
 pub mod Entries
+pub mod Frozen
 pub mod Held
 pub mod Many
 pub mod Opened

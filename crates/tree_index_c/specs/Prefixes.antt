@@ -1,5 +1,5 @@
 -- Keys that begin with a prefix: where they end, and their removal.
-use Rattle.std.specs.Prelude.{◌≡◌, ◌⊎◌, ℕ, ◌^◌, ◌<◌, ◌≤◌, List, ◌++◌, drop, length, ⊤}
+use Rattle.std.specs.Prelude.{◌≡◌, ◌⊎◌, ℕ, ℤ, ◌^◌, ◌<◌, ◌≤◌, List, ◌++◌, drop, length, ⊤}
 use Rattle.std.specs.declared.ops.Bound.{Bound}
 use Rattle.std.specs.declared.ops.Bound.TheVariants.{Included, Excluded, Unbounded}
 use Rattle.tree_index.specs.Index.{Index}
@@ -19,19 +19,19 @@ pub record EndsPrefix (prefix : List ℕ) (end : Bound (List ℕ)) : Type 0 wher
   pub short : IsEnd prefix end
 
 -- The key that an end excludes is written, if there is one. Where the places are too few for it, they stay.
-abbrev pub WritesEnd : Bound (List ℕ) → ℕ → List ℕ → List ℕ → ℕ → ℕ → Type 0
+abbrev pub WritesEnd : Bound (List ℕ) → ℤ → List ℕ → List ℕ → ℕ → ℕ → Type 0
 WritesEnd (Excluded end) answer before after length_before length_after =
     (length_after ≡ length end)
     × (((answer ≡ YES) × (length end ≤ length before) × (after ≡ end ++ drop (length end) before)) ⊎ ((answer ≡ NO_ROOM) × (length before < length end) × (after ≡ before)))
 WritesEnd _ answer before after length_before length_after = (answer ≡ NO) × (after ≡ before) × (length_after ≡ length_before)
 
 -- the same, or an allocation failed
-abbrev pub WritesEndOrRefuses : Bound (List ℕ) → ℕ → List ℕ → List ℕ → ℕ → ℕ → Type 0
+abbrev pub WritesEndOrRefuses : Bound (List ℕ) → ℤ → List ℕ → List ℕ → ℕ → ℕ → Type 0
 WritesEndOrRefuses end answer before after length_before length_after =
     WritesEnd end answer before after length_before length_after ⊎ ((answer ≡ NO_MEMORY) × (after ≡ before) × (length_after ≡ length_before))
 
 -- The pairs whose keys begin with the prefix are removed, and counted unless there are more pairs than a number can count. Or an allocation failed, and nothing changed.
-abbrev pub RemovesPrefix : List ℕ → ℕ → ℕ → Index (List ℕ) ℕ → ℕ → Index (List ℕ) ℕ → Type 0
+abbrev pub RemovesPrefix : List ℕ → ℕ → ℕ → Index (List ℕ) ℕ → ℤ → Index (List ℕ) ℕ → Type 0
 RemovesPrefix prefix before after old answer new =
     ((answer ≡ YES) × (new.pairs ≡ not_beginning_with prefix old.pairs) × (length old.pairs < 2 ^ 64 → after ≡ length (beginning_with prefix old.pairs)))
     ⊎ ((answer ≡ NO_MEMORY) × (after ≡ before) × (new ≡ old))

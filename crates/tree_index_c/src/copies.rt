@@ -7,10 +7,10 @@ use crate::status::{MISFIT, NO_MEMORY};
 use crate::store::Store;
 use std::alloc::{AllocError, Global};
 
-/// Opens the closed handle `to` on a copy of the index of `from`. If an allocation fails, `to`
-/// stays closed. Runs in O(n).
+/// Opens the closed handle `to` on a copy of the index of `from`, which isn't frozen even if that
+/// one is. If an allocation fails, `to` stays closed. Runs in O(n).
 #[unsafe(no_mangle)]
-pub extern "C" fn tree_index_copy(alloc: Global, from: &mut Handle, to: &mut Handle) -> u8
+pub extern "C" fn tree_index_copy(alloc: Global, from: &mut Handle, to: &mut Handle) -> i32
     ensures kept { held from.new ≡ held from.old }
     ensures copied { Copies (held from.old) (held to.old) result (held to.new) }
 {
@@ -34,5 +34,7 @@ fn copy_of(alloc: Global, store: &Store) -> Result<Store, AllocError>
     match store {
         Store::Numbers(index) => Ok(Store::Numbers(index.try_clone(alloc)?)),
         Store::Bytes(index) => Ok(Store::Bytes(index.try_clone(alloc)?)),
+        Store::FrozenNumbers(index) => Ok(Store::Numbers(index.try_clone(alloc)?)),
+        Store::FrozenBytes(index) => Ok(Store::Bytes(index.try_clone(alloc)?)),
     }
 }

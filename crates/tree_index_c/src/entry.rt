@@ -16,7 +16,7 @@ pub struct Entry {
 
 /// Writes the bytes of a key to the first places, and its length and its value to an entry. Where
 /// the places are too few it writes the entry alone.
-pub fn write_entry(pair: Option<(&Bytes, &u64)>, places: &mut [u8], entry: &mut Entry) -> u8
+pub fn write_entry(pair: Option<(&Bytes, &u64)>, places: &mut [u8], entry: &mut Entry) -> i32
     ensures { WritesEntry (lent pair.entry) result places.old places.new entry.old entry.new }
 {
     let Some((key, value)) = pair else {

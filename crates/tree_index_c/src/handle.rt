@@ -41,7 +41,7 @@ impl Handle {
 
     /// Opens a closed handle on a store. Answers `NO_MEMORY` if an allocation fails, and the handle
     /// is closed then.
-    pub fn open(&mut self, alloc: Global, store: Store) -> u8
+    pub fn open(&mut self, alloc: Global, store: Store) -> i32
         ensures { OpensOn store result self.new.pointer.behind }
     {
         match Box::new(alloc, store) {

@@ -1,5 +1,5 @@
 //! The calls that any handle takes.
-ghost use Rattle.std.specs.Prelude.{◌≡◌, ◌^◌, ◌-◌, None, Some, min};
+ghost use Rattle.std.specs.Prelude.{◌≡◌, ◌^◌, ◌-◌, None, min};
 ghost use Rattle.tree_index_c.specs.Answers.{Empties};
 ghost use Rattle.tree_index_c.specs.Held.{held, count_in, depth_in, spare_in};
 
@@ -26,7 +26,12 @@ pub extern "C" fn tree_index_len(alloc: Global, handle: &mut Handle) -> usize
     let Some(store) = handle.take(alloc) else {
         return 0;
     };
-    let len = len(&store);
+    let len = match &*store {
+        Store::Numbers(index) => index.len(),
+        Store::Bytes(index) => index.len(),
+        Store::FrozenNumbers(index) => index.len(),
+        Store::FrozenBytes(index) => index.len(),
+    };
     *handle = Handle::leading_to(store);
     len
 }
@@ -42,7 +47,12 @@ pub extern "C" fn tree_index_depth(alloc: Global, handle: &mut Handle) -> usize
     let Some(store) = handle.take(alloc) else {
         return 0;
     };
-    let depth = depth(&store);
+    let depth = match &*store {
+        Store::Numbers(index) => index.depth(),
+        Store::Bytes(index) => index.depth(),
+        Store::FrozenNumbers(index) => index.depth(),
+        Store::FrozenBytes(index) => index.depth(),
+    };
     *handle = Handle::leading_to(store);
     depth
 }
@@ -57,7 +67,12 @@ pub extern "C" fn tree_index_spare(alloc: Global, handle: &mut Handle) -> u8
     let Some(store) = handle.take(alloc) else {
         return 0;
     };
-    let spare = spare(&store);
+    let spare = match &*store {
+        Store::Numbers(index) => index.spare(),
+        Store::Bytes(index) => index.spare(),
+        Store::FrozenNumbers(index) => index.spare(),
+        Store::FrozenBytes(index) => index.spare(),
+    };
     *handle = Handle::leading_to(store);
     spare
 }
@@ -65,50 +80,23 @@ pub extern "C" fn tree_index_spare(alloc: Global, handle: &mut Handle) -> u8
 /// Removes all pairs. Answers `YES`, also if there was none. Runs in O(n). Keeps the memory for
 /// later pairs.
 #[unsafe(no_mangle)]
-pub extern "C" fn tree_index_clear(alloc: Global, handle: &mut Handle) -> u8
+pub extern "C" fn tree_index_clear(alloc: Global, handle: &mut Handle) -> i32
     ensures { Empties (held handle.old) result (held handle.new) }
 {
     let Some(mut store) = handle.take(alloc) else {
         return MISFIT;
     };
-    let answer = clear(&mut store);
+    let answer = match &mut *store {
+        Store::Numbers(index) => {
+            index.clear();
+            YES
+        }
+        Store::Bytes(index) => {
+            index.clear();
+            YES
+        }
+        _ => MISFIT,
+    };
     *handle = Handle::leading_to(store);
     answer
-}
-
-fn len(store: &Store) -> usize
-    ensures { result ≡ min (count_in (Some store.now)) (2 ^ 64 - 1) }
-{
-    match store {
-        Store::Numbers(index) => index.len(),
-        Store::Bytes(index) => index.len(),
-    }
-}
-
-fn depth(store: &Store) -> usize
-    ensures { result ≡ depth_in (Some store.now) }
-{
-    match store {
-        Store::Numbers(index) => index.depth(),
-        Store::Bytes(index) => index.depth(),
-    }
-}
-
-fn spare(store: &Store) -> u8
-    ensures { result ≡ spare_in (Some store.now) }
-{
-    match store {
-        Store::Numbers(index) => index.spare(),
-        Store::Bytes(index) => index.spare(),
-    }
-}
-
-fn clear(store: &mut Store) -> u8
-    ensures { Empties (Some store.old) result (Some store.new) }
-{
-    match store {
-        Store::Numbers(index) => index.clear(),
-        Store::Bytes(index) => index.clear(),
-    }
-    YES
 }

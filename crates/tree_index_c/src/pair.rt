@@ -1,6 +1,5 @@
 //! Pairs and bounds, as C sees them.
 ghost use Rattle.std.specs.Prelude.{◌≡◌};
-ghost use Rattle.std.specs.Option.{option_copied};
 ghost use Rattle.tree_model.specs.Rest.{lent};
 ghost use Rattle.tree_index_c.specs.Answers.{Writes};
 ghost use Rattle.tree_index_c.specs.Pairs.{bound_at, pair_of};
@@ -28,26 +27,30 @@ pub fn bound_of(kind: u8, key: u64) -> Bound<u64>
 }
 
 /// Writes a pair, if there is one.
-pub fn write_pair(pair: Option<(&u64, &u64)>, place: &mut Pair) -> u8
-    ensures { Writes (lent pair.entry) result (pair_of place.old) (pair_of place.new) }
+pub fn write_pair(pair: Option<(u64, u64)>, place: &mut Pair) -> i32
+    ensures { Writes pair result (pair_of place.old) (pair_of place.new) }
 {
     let Some((key, value)) = pair else {
         return NO;
     };
-    *place = Pair {
-        key: *key,
-        value: *value,
-    };
+    *place = Pair { key, value };
     YES
 }
 
+/// Writes the pair that a look-up found, if there is one.
+pub fn write_lent(pair: Option<(&u64, &u64)>, place: &mut Pair) -> i32
+    ensures { Writes (lent pair.entry) result (pair_of place.old) (pair_of place.new) }
+{
+    write_pair(pair.map(|(key, value)| (*key, *value)), place)
+}
+
 /// Writes a value, if there is one.
-pub fn write_value(value: Option<&u64>, place: &mut u64) -> u8
-    ensures { Writes (option_copied value.entry) result place.old place.new }
+pub fn write_value(value: Option<u64>, place: &mut u64) -> i32
+    ensures { Writes value result place.old place.new }
 {
     let Some(value) = value else {
         return NO;
     };
-    *place = *value;
+    *place = value;
     YES
 }

@@ -1,7 +1,7 @@
 """A sorted mapping over an ordered index whose every call is proved.
 
 ``TreeIndex`` has the methods of ``sortedcontainers.SortedDict`` that an ordered index serves well. Its keys are ints
-between -2**63 and 2**63 - 1, or bytes, as the first key decides. Its values are any objects.
+between -2**63 and 2**63 - 1, bytes or strs, as the first key decides. Its values are any objects.
 
 >>> prices = TreeIndex({101: "a", 104: "b", 102: "c"})
 >>> list(prices.irange(102))
@@ -75,10 +75,8 @@ class TreeIndex(Index, MutableMapping):
     __slots__ = ()
 
     def __init__(self, *args, **kwargs):
-        if kwargs:
-            raise TypeError("a key is an int or a bytes, so that no key is a keyword")
-        if args:
-            self.update(*args)
+        if args or kwargs:
+            self.update(*args, **kwargs)
 
     def keys(self):
         """The keys, as a view that is walked in ascending order, or in descending order by reversed()."""
@@ -109,6 +107,14 @@ class TreeIndex(Index, MutableMapping):
             if view.ndim == 1 and view.itemsize == 8 and view.format in _SIGNED + _UNSIGNED:
                 return self._get_packed(view.tobytes(), default, view.format in _SIGNED)
         return self._get_each(keys, default)
+
+    def bisect_left(self, key):
+        """How many keys are smaller. Walks over them, since an index counts no places."""
+        return sum(1 for _ in self.irange(None, key, (True, False)))
+
+    def bisect_right(self, key):
+        """How many keys aren't larger. Walks over them, since an index counts no places."""
+        return sum(1 for _ in self.irange(None, key))
 
     def iprefix_items(self, prefix, reverse=False):
         """The items whose keys begin with a prefix, as iprefix() gives the keys."""

@@ -1,7 +1,8 @@
 /* The mapping over an index, by CPython's stable interface.
  *
- * The key of an index is an int between -2**63 and 2**63 - 1 or a bytes, as its first key is. A number is stored with its
- * sign bit turned, so that its order is that of the unsigned numbers. The value stored under it is the address of an item,
+ * The key of an index is an int between -2**63 and 2**63 - 1, a bytes or a str, as its first key is. A number is stored with
+ * its sign bit turned, so that its order is that of the unsigned numbers. A str is stored as UTF-8, whose order is that of
+ * code points, as a str's is. The value stored under a key is the address of an item,
  * a tuple of the key's and the value's objects, and the index owns a reference to it. So walks hand out objects that are
  * there, and allocate nothing. Each method holds the interpreter's lock throughout, and no method is in the middle of a call
  * of the library while it runs Python code.
@@ -12,7 +13,7 @@
 
 #include "tree_index.h"
 
-enum kind { NONE, NUMBERS, BYTES };
+enum kind { NONE, NUMBERS, BYTES, STRINGS };
 
 typedef struct {
   PyObject_HEAD
@@ -20,14 +21,17 @@ typedef struct {
   enum kind kind;
   /* How many writes there were: a walk ends where it meets another number. */
   uint64_t writes;
+  /* Whether it takes no writes. The library refuses them too, once there is a key. */
+  int is_frozen;
 } Index;
 
-/* A key on its way to the library. */
+/* A key on its way to the library. It owns the UTF-8 of a str: `let_go` frees that. */
 typedef struct {
   enum kind kind;
   uint64_t number;
   const uint8_t *bytes;
   Py_ssize_t length;
+  PyObject *owned;
 } Key;
 
 /* A bound of a walk. It owns its bytes. */
@@ -55,8 +59,14 @@ static PyObject *new_reference(PyObject *object) {
   return object;
 }
 
-/* Reads a key. Returns -1 with an exception if it is neither a number in range nor a bytes. */
+static void let_go(Key *key) { Py_CLEAR(key->owned); }
+
+/* The bytes that stand for a str. Lone surrogates have some too, in the order of code points. */
+static PyObject *utf8_of(PyObject *object) { return PyUnicode_AsEncodedString(object, "utf-8", "surrogatepass"); }
+
+/* Reads a key. Returns -1 with an exception if it is no number in range, no bytes and no str. */
 static int read_key(PyObject *object, Key *key) {
+  key->owned = NULL;
   if (PyLong_Check(object)) {
     int overflow;
     long long number = PyLong_AsLongLongAndOverflow(object, &overflow);
@@ -69,10 +79,11 @@ static int read_key(PyObject *object, Key *key) {
     key->number = turned((uint64_t)number);
     return 0;
   }
-  if (PyBytes_Check(object)) {
+  if (PyBytes_Check(object) || PyUnicode_Check(object)) {
     char *bytes;
+    key->kind = PyBytes_Check(object) ? BYTES : STRINGS;
+    if (key->kind == STRINGS && !(object = key->owned = utf8_of(object))) return -1;
     if (PyBytes_AsStringAndSize(object, &bytes, &key->length) < 0) return -1;
-    key->kind = BYTES;
     key->bytes = (const uint8_t *)bytes;
     return 0;
   }
@@ -80,7 +91,7 @@ static int read_key(PyObject *object, Key *key) {
     PyErr_SetString(PyExc_TypeError, "an index has no slices: irange() walks from one key to another, and keys()[i:j] to a place");
     return -1;
   }
-  PyErr_Format(PyExc_TypeError, "a key is an int or a bytes, not %R", (PyObject *)Py_TYPE(object));
+  PyErr_Format(PyExc_TypeError, "a key is an int, a bytes or a str, not %R", (PyObject *)Py_TYPE(object));
   return -1;
 }
 
@@ -91,17 +102,24 @@ static int read_sought(Index *self, PyObject *object, Key *key) {
     PyErr_Clear();
     return 0;
   }
-  if (self->kind != NONE && self->kind != key->kind) {
-    PyErr_Format(PyExc_TypeError, "the keys of this index are of the other type than %R", object);
-    return -1;
-  }
-  return self->kind == key->kind;
+  if (self->kind == key->kind) return 1;
+  let_go(key);
+  if (self->kind == NONE) return 0;
+  PyErr_Format(PyExc_TypeError, "the keys of this index are of another type than %R", object);
+  return -1;
+}
+
+/* Returns whether the index takes writes, and raises TypeError if it doesn't. */
+static int may_write(Index *self) {
+  if (self->is_frozen) PyErr_SetString(PyExc_TypeError, "the index is frozen: thaw() lets it be changed again, and copy() gives one that can be changed");
+  return !self->is_frozen;
 }
 
 /* Opens the handle for the first key. */
 static int open_for(Index *self, enum kind kind) {
+  if (!may_write(self)) return -1;
   if (self->kind == NONE) {
-    uint8_t answer = kind == NUMBERS ? tree_index_new(&self->handle) : tree_index_bytes_new(&self->handle);
+    int answer = kind == NUMBERS ? tree_index_new(&self->handle) : tree_index_bytes_new(&self->handle);
     if (answer != TREE_INDEX_YES) {
       PyErr_NoMemory();
       return -1;
@@ -109,39 +127,41 @@ static int open_for(Index *self, enum kind kind) {
     self->kind = kind;
   }
   if (self->kind != kind) {
-    PyErr_SetString(PyExc_TypeError, "an index has keys of one type: int or bytes");
+    PyErr_SetString(PyExc_TypeError, "an index has keys of one type: int, bytes or str");
     return -1;
   }
   return 0;
 }
 
-static uint8_t peek(Index *self, const Key *key, uint64_t *stored) {
+static int peek(Index *self, const Key *key, uint64_t *stored) {
   return key->kind == NUMBERS ? tree_index_peek(&self->handle, key->number, stored)
                               : tree_index_bytes_peek(&self->handle, key->bytes, (size_t)key->length, stored);
 }
 
-static uint8_t insert(Index *self, const Key *key, PyObject *item) {
+static int insert(Index *self, const Key *key, PyObject *item) {
   return key->kind == NUMBERS ? tree_index_insert(&self->handle, key->number, stored_of(item))
                               : tree_index_bytes_insert(&self->handle, key->bytes, (size_t)key->length, stored_of(item));
 }
 
-static uint8_t upsert(Index *self, const Key *key, PyObject *item) {
+static int upsert(Index *self, const Key *key, PyObject *item) {
   return key->kind == NUMBERS ? tree_index_upsert(&self->handle, key->number, stored_of(item))
                               : tree_index_bytes_upsert(&self->handle, key->bytes, (size_t)key->length, stored_of(item));
 }
 
-static uint8_t take(Index *self, const Key *key, uint64_t *stored) {
+static int take(Index *self, const Key *key, uint64_t *stored) {
   return key->kind == NUMBERS ? tree_index_take(&self->handle, key->number, stored)
                               : tree_index_bytes_take(&self->handle, key->bytes, (size_t)key->length, stored);
 }
 
-/* A new item. Its key is an int or a bytes itself, whatever subclass of them it is given as. */
+/* A new item. Its key is an int, a bytes or a str itself, whatever subclass of them it is given as. */
 static PyObject *new_item(const Key *key, PyObject *name, PyObject *value) {
   PyObject *plain;
   if (key->kind == NUMBERS) {
     plain = PyLong_CheckExact(name) ? new_reference(name) : PyLong_FromLongLong((long long)turned(key->number));
-  } else {
+  } else if (key->kind == BYTES) {
     plain = PyBytes_CheckExact(name) ? new_reference(name) : PyBytes_FromStringAndSize((const char *)key->bytes, key->length);
+  } else {
+    plain = PyUnicode_FromObject(name);
   }
   if (!plain) return NULL;
   PyObject *item = PyTuple_Pack(2, plain, value);
@@ -156,16 +176,16 @@ static int store(Index *self, PyObject *name, PyObject *value) {
   if (read_key(name, &key) < 0) return -1;
   /* The item comes first, since Python code may run while it is allocated. */
   PyObject *item = new_item(&key, name, value);
-  if (!item) return -1;
-  uint8_t answer = TREE_INDEX_MISFIT;
-  if (open_for(self, key.kind) == 0) {
+  int answer = TREE_INDEX_MISFIT;
+  if (item && open_for(self, key.kind) == 0) {
     self->writes++;
     /* The old item must be known before it is replaced. */
     answer = peek(self, &key, &was) == TREE_INDEX_YES ? upsert(self, &key, item) : insert(self, &key, item);
     if (answer == TREE_INDEX_NO_MEMORY) PyErr_NoMemory();
   }
+  let_go(&key);
   if (answer != TREE_INDEX_YES) {
-    Py_DECREF(item);
+    Py_XDECREF(item);
     return -1;
   }
   if (was) Py_DECREF(item_of(was));
@@ -194,13 +214,13 @@ enum shows { KEYS, VALUES, ITEMS };
 typedef struct {
   Index *index;
   Bound low, high;
-  int descends;
+  int descends, is_done;
   size_t at, count, most;
   union {
     tree_index_pair pairs[AHEAD];
     tree_index_entry entries[AHEAD];
   } read;
-  /* Places for the bytes of keys, of which nothing is read: an item has its key. */
+  /* Places for the bytes of keys. Only those of the last are read, since an item has its key. */
   uint8_t *room;
   size_t room_length;
 } Ahead;
@@ -222,10 +242,12 @@ static int read_ahead(Ahead *ahead) {
   Index *index = ahead->index;
   size_t most = ahead->most;
   ahead->at = ahead->count = 0;
+  if (ahead->is_done) return 0;
   if (ahead->most < AHEAD) ahead->most *= 2;
   if (index->kind == NUMBERS) {
     ahead->count = (ahead->descends ? tree_index_fill_back : tree_index_fill)(
         &index->handle, ahead->low.kind, ahead->low.number, ahead->high.kind, ahead->high.number, ahead->read.pairs, most);
+    ahead->is_done = ahead->count < most;
     /* The parts of a tuple lie behind its head. */
     for (size_t at = 0; at < ahead->count; at++) ask_memory_for((PyVarObject *)item_of(ahead->read.pairs[at].value) + 1);
     if (ahead->count) {
@@ -244,16 +266,20 @@ static int read_ahead(Ahead *ahead) {
       ahead->room_length = ROOM;
     }
     if (!ahead->room) break;
-    uint8_t answer = (ahead->descends ? tree_index_bytes_fill_back : tree_index_bytes_fill)(
+    int answer = (ahead->descends ? tree_index_bytes_fill_back : tree_index_bytes_fill)(
         &index->handle, ahead->low.kind, low, low_length, ahead->high.kind, high, high_length, ahead->room, ahead->room_length,
         ahead->read.entries, most, &ahead->count);
     if (answer == TREE_INDEX_YES) {
       if (!ahead->count) return 0;
       Bound *next = ahead->descends ? &ahead->high : &ahead->low;
-      PyObject *before = next->bytes;
+      size_t from = 0, last = ahead->count - 1;
+      for (size_t at = 0; at < last; at++) from += ahead->read.entries[at].length;
+      PyObject *key = PyBytes_FromStringAndSize((const char *)ahead->room + from, (Py_ssize_t)ahead->read.entries[last].length);
+      if (!key) ahead->count = 0;
+      if (!key) return -1;
+      Py_XDECREF(next->bytes);
       next->kind = TREE_INDEX_EXCLUDED;
-      next->bytes = new_reference(key_in(item_of(ahead->read.entries[ahead->count - 1].value)));
-      Py_XDECREF(before);
+      next->bytes = key;
       return 0;
     }
     size_t needed = answer == TREE_INDEX_NO_ROOM ? ahead->count : 0;
@@ -288,6 +314,7 @@ static void begin(Ahead *ahead, Index *index, Bound low, Bound high, int descend
   ahead->high = high;
   ahead->descends = descends;
   ahead->at = ahead->count = 0;
+  ahead->is_done = 0;
   ahead->most = AT_FIRST;
   ahead->room = NULL;
 }
@@ -395,16 +422,13 @@ static int read_bound(Index *self, PyObject *object, int inclusive, int is_low, 
     return positive < 0 ? -1 : positive != is_low;
   }
   if (self->kind != NONE && self->kind != key.kind) {
-    PyErr_Format(PyExc_TypeError, "the keys of this index are of the other type than %R", object);
+    let_go(&key);
+    PyErr_Format(PyExc_TypeError, "the keys of this index are of another type than %R", object);
     return -1;
   }
   bound->kind = inclusive ? TREE_INDEX_INCLUDED : TREE_INDEX_EXCLUDED;
-  if (key.kind == NUMBERS) {
-    bound->number = key.number;
-  } else {
-    Py_INCREF(object);
-    bound->bytes = object;
-  }
+  if (key.kind == NUMBERS) bound->number = key.number;
+  else bound->bytes = key.kind == BYTES ? new_reference(object) : key.owned;
   return 1;
 }
 
@@ -434,23 +458,31 @@ static int read_bounds(Index *self, PyObject *minimum, PyObject *maximum, PyObje
 static int read_prefix(Index *self, PyObject *prefix, Bound *low, Bound *high) {
   Key key;
   *low = *high = unbounded;
-  if (!PyBytes_Check(prefix) || self->kind == NUMBERS) {
-    PyErr_Format(PyExc_TypeError, self->kind == NUMBERS ? "the keys of this index are ints, and begin with no %R" : "a prefix is a bytes, not %R", prefix);
+  if (!PyBytes_Check(prefix) && !PyUnicode_Check(prefix)) {
+    PyErr_Format(PyExc_TypeError, "a prefix is a bytes or a str, not %R", prefix);
     return -1;
   }
   if (read_key(prefix, &key) < 0) return -1;
+  if (self->kind != NONE && self->kind != key.kind) {
+    let_go(&key);
+    PyErr_Format(PyExc_TypeError, "the keys of this index begin with no %R", prefix);
+    return -1;
+  }
   size_t length = (size_t)key.length;
   uint8_t *end = PyMem_Malloc(length ? length : 1);
-  uint8_t answer = end ? tree_index_bytes_prefix_end(key.bytes, length, end, length, &length) : TREE_INDEX_NO_MEMORY;
+  int answer = end ? tree_index_bytes_prefix_end(key.bytes, length, end, length, &length) : TREE_INDEX_NO_MEMORY;
   if (answer == TREE_INDEX_NO_MEMORY) PyErr_NoMemory();
   if (answer == TREE_INDEX_YES) {
     high->kind = TREE_INDEX_EXCLUDED;
     high->bytes = PyBytes_FromStringAndSize((const char *)end, (Py_ssize_t)length);
   }
   PyMem_Free(end);
-  if (PyErr_Occurred()) return -1;
+  if (PyErr_Occurred()) {
+    let_go(&key);
+    return -1;
+  }
   low->kind = TREE_INDEX_INCLUDED;
-  low->bytes = new_reference(prefix);
+  low->bytes = key.kind == BYTES ? new_reference(prefix) : key.owned;
   return 0;
 }
 
@@ -514,6 +546,7 @@ static PyObject *index_new(PyTypeObject *type, PyObject *args, PyObject *kwargs)
   self->handle = (tree_index_handle)TREE_INDEX_CLOSED;
   self->kind = NONE;
   self->writes = 0;
+  self->is_frozen = 0;
   return (PyObject *)self;
 }
 
@@ -525,7 +558,9 @@ static PyObject *index_subscript(PyObject *object, PyObject *sought) {
   uint64_t stored;
   int may = read_sought(self, sought, &key);
   if (may < 0) return NULL;
-  if (!may || peek(self, &key, &stored) != TREE_INDEX_YES) {
+  int answer = may ? peek(self, &key, &stored) : TREE_INDEX_NO;
+  if (may) let_go(&key);
+  if (answer != TREE_INDEX_YES) {
     PyErr_SetObject(PyExc_KeyError, sought);
     return NULL;
   }
@@ -536,10 +571,11 @@ static PyObject *index_subscript(PyObject *object, PyObject *sought) {
 static PyObject *taken(Index *self, PyObject *sought, int *failed) {
   Key key;
   uint64_t stored;
-  int may = read_sought(self, sought, &key);
+  int may = may_write(self) ? read_sought(self, sought, &key) : -1;
   *failed = may < 0;
   if (may <= 0) return NULL;
-  uint8_t answer = take(self, &key, &stored);
+  int answer = take(self, &key, &stored);
+  let_go(&key);
   if (answer == TREE_INDEX_NO_MEMORY) {
     PyErr_NoMemory();
     *failed = 1;
@@ -566,8 +602,10 @@ static int index_contains(PyObject *object, PyObject *sought) {
   Key key;
   int may = read_sought(self, sought, &key);
   if (may <= 0) return may;
-  return (key.kind == NUMBERS ? tree_index_contains(&self->handle, key.number)
-                              : tree_index_bytes_contains(&self->handle, key.bytes, (size_t)key.length)) == TREE_INDEX_YES;
+  int answer = key.kind == NUMBERS ? tree_index_contains(&self->handle, key.number)
+                                   : tree_index_bytes_contains(&self->handle, key.bytes, (size_t)key.length);
+  let_go(&key);
+  return answer == TREE_INDEX_YES;
 }
 
 static PyObject *index_iter(PyObject *object) { return walk_over((Index *)object, unbounded, unbounded, 0, KEYS); }
@@ -591,7 +629,9 @@ static PyObject *index_get(PyObject *object, PyObject *args) {
   uint64_t stored;
   int may = read_sought(self, sought, &key);
   if (may < 0) return NULL;
-  return new_reference(may && peek(self, &key, &stored) == TREE_INDEX_YES ? value_in(item_of(stored)) : otherwise);
+  int answer = may ? peek(self, &key, &stored) : TREE_INDEX_NO;
+  if (may) let_go(&key);
+  return new_reference(answer == TREE_INDEX_YES ? value_in(item_of(stored)) : otherwise);
 }
 
 /* Appends the values of some numbers to a list, or the default in place of one that is absent or that `fits` rules out. */
@@ -620,8 +660,8 @@ static PyObject *index_get_packed(PyObject *object, PyObject *args) {
   Py_ssize_t length;
   int is_signed;
   if (!PyArg_ParseTuple(args, "SOp", &packed, &otherwise, &is_signed) || PyBytes_AsStringAndSize(packed, &bytes, &length) < 0) return NULL;
-  if (self->kind == BYTES && length > 0) {
-    PyErr_SetString(PyExc_TypeError, "the keys of this index are of the other type than numbers");
+  if (self->kind != NONE && self->kind != NUMBERS && length > 0) {
+    PyErr_SetString(PyExc_TypeError, "the keys of this index are no numbers");
     return NULL;
   }
   PyObject *values = PyList_New(0);
@@ -654,11 +694,12 @@ static PyObject *index_get_each(PyObject *object, PyObject *args) {
     int may = read_sought(self, sought, &key);
     if (may < 0) {
       failed = 1;
-    } else if (may && key.kind == BYTES) {
+    } else if (may && key.kind != NUMBERS) {
       uint64_t stored;
       if (count > 0) failed = append_many(self, numbers, fits, count, otherwise, values);
       count = 0;
       PyObject *value = new_reference(peek(self, &key, &stored) == TREE_INDEX_YES ? value_in(item_of(stored)) : otherwise);
+      let_go(&key);
       if (!failed) failed = PyList_Append(values, value);
       Py_DECREF(value);
     } else {
@@ -682,19 +723,28 @@ static PyObject *index_setdefault(PyObject *object, PyObject *args) {
   if (!PyArg_ParseTuple(args, "O|O:setdefault", &name, &value)) return NULL;
   Key key;
   uint64_t stored;
-  if (read_key(name, &key) < 0 || open_for(self, key.kind) < 0) return NULL;
-  if (peek(self, &key, &stored) == TREE_INDEX_YES) return new_reference(value_in(item_of(stored)));
-  PyObject *item = new_item(&key, name, value);
-  if (!item) return NULL;
-  /* Python code may have run meanwhile: it may have emptied the index, or stored the key. */
-  uint8_t answer = open_for(self, key.kind) < 0 ? TREE_INDEX_MISFIT : insert(self, &key, item);
-  if (answer == TREE_INDEX_YES) {
-    self->writes++;
-    return new_reference(value);
+  if (read_key(name, &key) < 0) return NULL;
+  PyObject *given = NULL, *item = NULL;
+  if (open_for(self, key.kind) == 0) {
+    if (peek(self, &key, &stored) == TREE_INDEX_YES) given = new_reference(value_in(item_of(stored)));
+    else item = new_item(&key, name, value);
   }
-  Py_DECREF(item);
-  if (answer == TREE_INDEX_NO && peek(self, &key, &stored) == TREE_INDEX_YES) return new_reference(value_in(item_of(stored)));
-  return answer == TREE_INDEX_NO_MEMORY ? PyErr_NoMemory() : NULL;
+  /* Python code may have run meanwhile: it may have emptied the index, or stored the key. */
+  if (item && open_for(self, key.kind) == 0) {
+    int answer = insert(self, &key, item);
+    if (answer == TREE_INDEX_YES) {
+      self->writes++;
+      Py_INCREF(item);
+      given = new_reference(value);
+    } else if (answer == TREE_INDEX_NO && peek(self, &key, &stored) == TREE_INDEX_YES) {
+      given = new_reference(value_in(item_of(stored)));
+    } else {
+      PyErr_NoMemory();
+    }
+  }
+  Py_XDECREF(item);
+  let_go(&key);
+  return given;
 }
 
 static PyObject *index_pop(PyObject *object, PyObject *args) {
@@ -715,7 +765,7 @@ static PyObject *index_pop(PyObject *object, PyObject *args) {
 
 static PyObject *index_clear_all(PyObject *object, PyObject *none) {
   (void)none;
-  if (empty((Index *)object) < 0) return NULL;
+  if (!may_write((Index *)object) || empty((Index *)object) < 0) return NULL;
   Py_RETURN_NONE;
 }
 
@@ -800,7 +850,7 @@ static PyObject *nearest(Index *self, PyObject *sought, int is_above) {
   if (!some || sought == Py_None) {
     Py_XDECREF(low.bytes);
     Py_XDECREF(high.bytes);
-    if (some) PyErr_SetString(PyExc_TypeError, "a key is an int or a bytes");
+    if (some) PyErr_SetString(PyExc_TypeError, "a key is an int, a bytes or a str");
     if (some) return NULL;
     Py_RETURN_NONE;
   }
@@ -826,7 +876,7 @@ static PyObject *index_at_or_above(PyObject *object, PyObject *sought) { return 
 
 /* Removes the items within two bounds, which it takes over, and gives them as a list. */
 static PyObject *pop_between(Index *self, Bound low, Bound high, const char *name) {
-  PyObject *items = PyList_New(0);
+  PyObject *items = may_write(self) ? PyList_New(0) : NULL;
   if (!items || self->kind == NONE) {
     Py_XDECREF(low.bytes);
     Py_XDECREF(high.bytes);
@@ -852,7 +902,8 @@ static PyObject *pop_between(Index *self, Bound low, Bound high, const char *nam
     }
   }
   end(&ahead);
-  uint8_t answer = TREE_INDEX_YES;
+  if (!more && !may_write(self)) more = -1;
+  int answer = TREE_INDEX_YES;
   if (!more) {
     size_t low_length, high_length;
     const uint8_t *from = bytes_of(&low, &low_length), *to = bytes_of(&high, &high_length);
@@ -879,7 +930,7 @@ static PyObject *index_pop_range(PyObject *object, PyObject *args, PyObject *kwa
   if (!PyArg_ParseTupleAndKeywords(args, kwargs, "|OOO:pop_range", names, &minimum, &maximum, &inclusive)) return NULL;
   Bound low, high;
   int some = read_bounds((Index *)object, minimum, maximum, inclusive, &low, &high);
-  if (some < 0) return NULL;
+  if (some < 0 || (!some && !may_write((Index *)object))) return NULL;
   return some ? pop_between((Index *)object, low, high, "pop_range") : PyList_New(0);
 }
 
@@ -897,6 +948,7 @@ static PyObject *index_copy_from(PyObject *object, PyObject *given) {
     return NULL;
   }
   Index *from = (Index *)given;
+  if (!may_write(self)) return NULL;
   if (from->kind == NONE) Py_RETURN_NONE;
   if (tree_index_copy(&from->handle, &self->handle) != TREE_INDEX_YES) return PyErr_NoMemory();
   Ahead ahead;
@@ -929,6 +981,28 @@ static PyObject *index_copy_from(PyObject *object, PyObject *given) {
   Py_RETURN_NONE;
 }
 
+static PyObject *index_freeze(PyObject *object, PyObject *none) {
+  Index *self = (Index *)object;
+  (void)none;
+  if (self->kind != NONE && !self->is_frozen && tree_index_freeze(&self->handle) != TREE_INDEX_YES) return PyErr_NoMemory();
+  self->is_frozen = 1;
+  Py_RETURN_NONE;
+}
+
+/* No other handle shares the index, so it thaws. */
+static PyObject *index_thaw(PyObject *object, PyObject *none) {
+  Index *self = (Index *)object;
+  (void)none;
+  if (self->is_frozen) tree_index_thaw(&self->handle);
+  self->is_frozen = 0;
+  Py_RETURN_NONE;
+}
+
+static PyObject *index_is_frozen(PyObject *object, void *none) {
+  (void)none;
+  return PyBool_FromLong(((Index *)object)->is_frozen);
+}
+
 static PyObject *index_depth(PyObject *object, void *none) {
   (void)none;
   return PyLong_FromSize_t(tree_index_depth(&((Index *)object)->handle));
@@ -952,16 +1026,19 @@ static PyMethodDef index_methods[] = {
     {"pop_prefix", index_pop_prefix, METH_O, "pop_prefix(prefix): removes the items whose keys begin with a prefix and returns them."},
     {"at_or_below", index_at_or_below, METH_O, "at_or_below(key): the item with a key, or else with the next smaller one, or None."},
     {"at_or_above", index_at_or_above, METH_O, "at_or_above(key): the item with a key, or else with the next larger one, or None."},
+    {"freeze", index_freeze, METH_NOARGS, "Refuses every write from now on by TypeError, so that who reads the index needs no copy."},
+    {"thaw", index_thaw, METH_NOARGS, "Lets a frozen index be changed again."},
     {NULL, NULL, 0, NULL},
 };
 
 static PyGetSetDef index_fields[] = {
     {"depth", index_depth, NULL, "How many levels of nodes there are.", NULL},
+    {"is_frozen", index_is_frozen, NULL, "Whether the index refuses writes.", NULL},
     {NULL, NULL, NULL, NULL, NULL},
 };
 
 static PyType_Slot index_slots[] = {
-    {Py_tp_doc, "An ordered index of objects by int or bytes keys."},
+    {Py_tp_doc, "An ordered index of objects by int, bytes or str keys."},
     {Py_tp_new, index_new},
     {Py_tp_dealloc, index_dealloc},
     {Py_tp_traverse, index_traverse},

@@ -1,5 +1,5 @@
 //! Look-ups in an index whose keys are strings of bytes.
-ghost use Rattle.std.specs.Prelude.{◌≡◌, Some};
+ghost use Rattle.std.specs.Prelude.{◌≡◌};
 ghost use Rattle.std.specs.Cmp.Lexicographic.{slice_cmp};
 ghost use Rattle.std.specs.Option.{option_map};
 ghost use Rattle.std.specs.Ordering.{nat_cmp};
@@ -7,14 +7,14 @@ ghost use Rattle.tree_leaf.specs.Walks.{first_of, last_of};
 ghost use Rattle.tree_index.specs.Nearest.{at_or_above, at_or_below};
 ghost use Rattle.tree_index_c.specs.Answers.{Says, Writes};
 ghost use Rattle.tree_index_c.specs.Entries.{FindsEntry, WritesEntry};
-ghost use Rattle.tree_index_c.specs.Held.{OnBytes, held};
+ghost use Rattle.tree_index_c.specs.Held.{AsksBytes, UnlessBytes, held};
 ghost use Rattle.tree_model.specs.Pairs.{IsAbsent, IsPresent, pair_at};
 
 use crate::bytes::key::key_of;
 use crate::entry::{Entry, write_entry};
 use crate::handle::Handle;
+use crate::pair::write_value;
 use crate::status::{MISFIT, NO, NO_MEMORY, YES};
-use crate::store::Store;
 use std::alloc::Global;
 use tree_texts::peek_bytes;
 
@@ -26,32 +26,45 @@ pub extern "C" fn tree_index_bytes_peek(
     handle: &mut Handle,
     key: &[u8],
     value: &mut u64,
-) -> u8
-    ensures { OnBytes
-        (λ old answer new. Writes
-        (option_map (λ pair. pair.1) (pair_at (slice_cmp nat_cmp) old.pairs key.now)) answer value.old value.new
-        × (new ≡ old)) (held handle.old) result (held handle.new) }
+) -> i32
+    ensures kept { held handle.new ≡ held handle.old }
+    ensures told { AsksBytes
+        (λ index answer. Writes (option_map (λ pair. pair.1) (pair_at (slice_cmp nat_cmp)
+        index.pairs key.now)) answer value.old value.new) (held handle.old) result }
+    ensures stays { UnlessBytes (held handle.old) (value.new ≡ value.old) }
 {
     let Some(store) = handle.take(alloc) else {
         return MISFIT;
     };
-    let answer = peek(&store, key, value);
+    let answer = match store.bytes() {
+        Some(index) => write_value(peek_bytes(index, key).map(|(_, value)| *value), value),
+        None => MISFIT,
+    };
     *handle = Handle::leading_to(store);
     answer
 }
 
 /// Answers whether a key is present. Runs in O(log n). Copies nothing.
 #[unsafe(no_mangle)]
-pub extern "C" fn tree_index_bytes_contains(alloc: Global, handle: &mut Handle, key: &[u8]) -> u8
-    ensures { OnBytes
-        (λ old answer new. Says (IsPresent (slice_cmp nat_cmp) old.pairs key.now)
-        (IsAbsent (slice_cmp nat_cmp) old.pairs key.now) answer × (new ≡ old))
-        (held handle.old) result (held handle.new) }
+pub extern "C" fn tree_index_bytes_contains(alloc: Global, handle: &mut Handle, key: &[u8]) -> i32
+    ensures kept { held handle.new ≡ held handle.old }
+    ensures told { AsksBytes
+        (λ index answer. Says (IsPresent (slice_cmp nat_cmp) index.pairs key.now) (IsAbsent
+        (slice_cmp nat_cmp) index.pairs key.now) answer) (held handle.old) result }
 {
     let Some(store) = handle.take(alloc) else {
         return MISFIT;
     };
-    let answer = contains(&store, key);
+    let answer = match store.bytes() {
+        Some(index) => {
+            if peek_bytes(index, key).is_some() {
+                YES
+            } else {
+                NO
+            }
+        }
+        None => MISFIT,
+    };
     *handle = Handle::leading_to(store);
     answer
 }
@@ -65,15 +78,20 @@ pub extern "C" fn tree_index_bytes_first(
     handle: &mut Handle,
     key: &mut [u8],
     entry: &mut Entry,
-) -> u8
-    ensures { OnBytes
-        (λ old answer new. WritesEntry (first_of old.pairs) answer key.old key.new entry.old entry.new × (new ≡ old))
-        (held handle.old) result (held handle.new) }
+) -> i32
+    ensures kept { held handle.new ≡ held handle.old }
+    ensures told { AsksBytes
+        (λ index answer. WritesEntry (first_of index.pairs) answer key.old key.new entry.old
+        entry.new) (held handle.old) result }
+    ensures stays { UnlessBytes (held handle.old) ((key.new ≡ key.old) × (entry.new ≡ entry.old)) }
 {
     let Some(store) = handle.take(alloc) else {
         return MISFIT;
     };
-    let answer = first(&store, key, entry);
+    let answer = match store.bytes() {
+        Some(index) => write_entry(index.first(), key, entry),
+        None => MISFIT,
+    };
     *handle = Handle::leading_to(store);
     answer
 }
@@ -86,15 +104,20 @@ pub extern "C" fn tree_index_bytes_last(
     handle: &mut Handle,
     key: &mut [u8],
     entry: &mut Entry,
-) -> u8
-    ensures { OnBytes
-        (λ old answer new. WritesEntry (last_of old.pairs) answer key.old key.new entry.old entry.new × (new ≡ old))
-        (held handle.old) result (held handle.new) }
+) -> i32
+    ensures kept { held handle.new ≡ held handle.old }
+    ensures told { AsksBytes
+        (λ index answer. WritesEntry (last_of index.pairs) answer key.old key.new entry.old
+        entry.new) (held handle.old) result }
+    ensures stays { UnlessBytes (held handle.old) ((key.new ≡ key.old) × (entry.new ≡ entry.old)) }
 {
     let Some(store) = handle.take(alloc) else {
         return MISFIT;
     };
-    let answer = last(&store, key, entry);
+    let answer = match store.bytes() {
+        Some(index) => write_entry(index.last(), key, entry),
+        None => MISFIT,
+    };
     *handle = Handle::leading_to(store);
     answer
 }
@@ -108,16 +131,23 @@ pub extern "C" fn tree_index_bytes_at_or_below(
     sought: &[u8],
     key: &mut [u8],
     entry: &mut Entry,
-) -> u8
-    ensures { OnBytes
-        (λ old answer new. FindsEntry
-        (at_or_below (slice_cmp nat_cmp) old.pairs sought.now) answer key.old key.new entry.old entry.new × (new ≡ old))
-        (held handle.old) result (held handle.new) }
+) -> i32
+    ensures kept { held handle.new ≡ held handle.old }
+    ensures told { AsksBytes
+        (λ index answer. FindsEntry (at_or_below (slice_cmp nat_cmp) index.pairs sought.now) answer
+        key.old key.new entry.old entry.new) (held handle.old) result }
+    ensures stays { UnlessBytes (held handle.old) ((key.new ≡ key.old) × (entry.new ≡ entry.old)) }
 {
     let Some(store) = handle.take(alloc) else {
         return MISFIT;
     };
-    let answer = below(&store, alloc, sought, key, entry);
+    let answer = match store.bytes() {
+        Some(index) => match key_of(alloc, sought) {
+            Ok(sought) => write_entry(index.at_or_below(&sought), key, entry),
+            Err(_) => NO_MEMORY,
+        },
+        None => MISFIT,
+    };
     *handle = Handle::leading_to(store);
     answer
 }
@@ -131,100 +161,23 @@ pub extern "C" fn tree_index_bytes_at_or_above(
     sought: &[u8],
     key: &mut [u8],
     entry: &mut Entry,
-) -> u8
-    ensures { OnBytes
-        (λ old answer new. FindsEntry
-        (at_or_above (slice_cmp nat_cmp) old.pairs sought.now) answer key.old key.new entry.old entry.new × (new ≡ old))
-        (held handle.old) result (held handle.new) }
+) -> i32
+    ensures kept { held handle.new ≡ held handle.old }
+    ensures told { AsksBytes
+        (λ index answer. FindsEntry (at_or_above (slice_cmp nat_cmp) index.pairs sought.now) answer
+        key.old key.new entry.old entry.new) (held handle.old) result }
+    ensures stays { UnlessBytes (held handle.old) ((key.new ≡ key.old) × (entry.new ≡ entry.old)) }
 {
     let Some(store) = handle.take(alloc) else {
         return MISFIT;
     };
-    let answer = above(&store, alloc, sought, key, entry);
+    let answer = match store.bytes() {
+        Some(index) => match key_of(alloc, sought) {
+            Ok(sought) => write_entry(index.at_or_above(&sought), key, entry),
+            Err(_) => NO_MEMORY,
+        },
+        None => MISFIT,
+    };
     *handle = Handle::leading_to(store);
     answer
-}
-
-fn peek(store: &Store, key: &[u8], value: &mut u64) -> u8
-    ensures { OnBytes
-        (λ old answer new. Writes
-        (option_map (λ pair. pair.1) (pair_at (slice_cmp nat_cmp) old.pairs key.now)) answer value.old value.new
-        × (new ≡ old)) (Some store.now) result (Some store.now) }
-{
-    let Store::Bytes(index) = store else {
-        return MISFIT;
-    };
-    let Some((_, found)) = peek_bytes(index, key) else {
-        return NO;
-    };
-    *value = *found;
-    YES
-}
-
-fn contains(store: &Store, key: &[u8]) -> u8
-    ensures { OnBytes
-        (λ old answer new. Says (IsPresent (slice_cmp nat_cmp) old.pairs key.now)
-        (IsAbsent (slice_cmp nat_cmp) old.pairs key.now) answer × (new ≡ old))
-        (Some store.now) result (Some store.now) }
-{
-    let Store::Bytes(index) = store else {
-        return MISFIT;
-    };
-    if peek_bytes(index, key).is_some() {
-        YES
-    } else {
-        NO
-    }
-}
-
-fn first(store: &Store, key: &mut [u8], entry: &mut Entry) -> u8
-    ensures { OnBytes
-        (λ old answer new. WritesEntry (first_of old.pairs) answer key.old key.new entry.old entry.new × (new ≡ old))
-        (Some store.now) result (Some store.now) }
-{
-    let Store::Bytes(index) = store else {
-        return MISFIT;
-    };
-    write_entry(index.first(), key, entry)
-}
-
-fn last(store: &Store, key: &mut [u8], entry: &mut Entry) -> u8
-    ensures { OnBytes
-        (λ old answer new. WritesEntry (last_of old.pairs) answer key.old key.new entry.old entry.new × (new ≡ old))
-        (Some store.now) result (Some store.now) }
-{
-    let Store::Bytes(index) = store else {
-        return MISFIT;
-    };
-    write_entry(index.last(), key, entry)
-}
-
-fn below(store: &Store, alloc: Global, sought: &[u8], key: &mut [u8], entry: &mut Entry) -> u8
-    ensures { OnBytes
-        (λ old answer new. FindsEntry
-        (at_or_below (slice_cmp nat_cmp) old.pairs sought.now) answer key.old key.new entry.old entry.new × (new ≡ old))
-        (Some store.now) result (Some store.now) }
-{
-    let Store::Bytes(index) = store else {
-        return MISFIT;
-    };
-    let Ok(sought) = key_of(alloc, sought) else {
-        return NO_MEMORY;
-    };
-    write_entry(index.at_or_below(&sought), key, entry)
-}
-
-fn above(store: &Store, alloc: Global, sought: &[u8], key: &mut [u8], entry: &mut Entry) -> u8
-    ensures { OnBytes
-        (λ old answer new. FindsEntry
-        (at_or_above (slice_cmp nat_cmp) old.pairs sought.now) answer key.old key.new entry.old entry.new × (new ≡ old))
-        (Some store.now) result (Some store.now) }
-{
-    let Store::Bytes(index) = store else {
-        return MISFIT;
-    };
-    let Ok(sought) = key_of(alloc, sought) else {
-        return NO_MEMORY;
-    };
-    write_entry(index.at_or_above(&sought), key, entry)
 }

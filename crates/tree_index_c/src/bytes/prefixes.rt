@@ -1,6 +1,6 @@
 //! Keys that begin with a prefix.
-ghost use Rattle.std.specs.Prelude.{Some};
-ghost use Rattle.tree_index_c.specs.Held.{OnBytes, held};
+ghost use Rattle.std.specs.Prelude.{◌≡◌};
+ghost use Rattle.tree_index_c.specs.Held.{OnBytes, UnlessOwnBytes, held};
 ghost use Rattle.tree_index_c.specs.Prefixes.{EndsPrefix, RemovesPrefix, WritesEndOrRefuses};
 ghost use Rattle.tree_texts.specs.Prefix.{end_of};
 
@@ -25,7 +25,7 @@ pub extern "C" fn tree_index_bytes_prefix_end(
     prefix: &[u8],
     end: &mut [u8],
     length: &mut usize,
-) -> u8
+) -> i32
     ensures end { EndsPrefix prefix.now (end_of prefix.now) }
     ensures written { WritesEndOrRefuses (end_of prefix.now) result end.old end.new length.old length.new }
 {
@@ -47,36 +47,33 @@ pub extern "C" fn tree_index_bytes_prefix_end(
 /// is sure unless the index had 2^64 pairs or more. Answers `YES`, also if there was none. Makes
 /// O(log n) comparisons, and frees the leaves between the first pair and the last whole. Copies
 /// the prefix and its end meanwhile.
+#[tactic(auto, using(crate::proofs::Prefixes::shrinks, crate::proofs::Prefixes::counts))]
 #[unsafe(no_mangle)]
 pub extern "C" fn tree_index_bytes_remove_prefix(
     alloc: Global,
     handle: &mut Handle,
     prefix: &[u8],
     count: &mut usize,
-) -> u8
-    ensures { OnBytes (RemovesPrefix prefix.now count.old count.new) (held handle.old) result (held handle.new) }
+) -> i32
+    ensures done { OnBytes (RemovesPrefix prefix.now count.old count.new) (held handle.old) result (held handle.new) }
+    ensures stays { UnlessOwnBytes (held handle.old) (count.new ≡ count.old) }
 {
     let Some(mut store) = handle.take(alloc) else {
         return MISFIT;
     };
-    let answer = remove_with_prefix(&mut store, alloc, prefix, count);
+    let answer = match &mut *store {
+        Store::Bytes(index) => {
+            let before = index.len();
+            match remove_prefix(alloc, index, prefix) {
+                Ok(_) => {
+                    *count = before - index.len();
+                    YES
+                }
+                Err(_) => NO_MEMORY,
+            }
+        }
+        _ => MISFIT,
+    };
     *handle = Handle::leading_to(store);
     answer
-}
-
-#[tactic(auto, using(crate::proofs::Prefixes::shrinks, crate::proofs::Prefixes::counts))]
-fn remove_with_prefix(store: &mut Store, alloc: Global, prefix: &[u8], count: &mut usize) -> u8
-    ensures { OnBytes (RemovesPrefix prefix.now count.old count.new) (Some store.old) result (Some store.new) }
-{
-    let Store::Bytes(index) = store else {
-        return MISFIT;
-    };
-    let before = index.len();
-    match remove_prefix(alloc, index, prefix) {
-        Ok(_) => {
-            *count = before - index.len();
-            YES
-        }
-        Err(_) => NO_MEMORY,
-    }
 }

@@ -1,11 +1,11 @@
 //! Ranges of keys that are strings of bytes.
-ghost use Rattle.std.specs.Prelude.{◌≡◌, ◌⊎◌, IfOk, Some, reverse};
+ghost use Rattle.std.specs.Prelude.{◌≡◌, ◌⊎◌, IfOk, reverse};
 ghost use Rattle.std.specs.Cmp.Lexicographic.{slice_cmp};
 ghost use Rattle.std.specs.Ordering.{nat_cmp};
 ghost use Rattle.tree_model.specs.Ways.{along};
 ghost use Rattle.tree_model.specs.Rest.{Moves};
 ghost use Rattle.tree_index_c.specs.Entries.{FillsBytes, FillsOrRefuses, IfBounds};
-ghost use Rattle.tree_index_c.specs.Held.{OnBytes, held};
+ghost use Rattle.tree_index_c.specs.Held.{AsksBytes, OnBytes, UnlessBytes, held};
 ghost use Rattle.tree_index_c.specs.Pairs.{bound_at, pairs_between};
 ghost use Rattle.tree_model.specs.Pairs.{cut};
 ghost use Rattle.tree_cursors.specs.Ranged.{way_of};
@@ -37,18 +37,25 @@ pub extern "C" fn tree_index_bytes_fill(
     keys: &mut [u8],
     entries: &mut [Entry],
     count: &mut usize,
-) -> u8
-    ensures { OnBytes
-        (λ old answer new. FillsOrRefuses
-        (pairs_between (slice_cmp nat_cmp) (bound_at low_kind low.now)
-        (bound_at high_kind high.now) old.pairs) answer keys.old keys.new entries.old entries.new count.old count.new
-        × (new ≡ old)) (held handle.old) result (held handle.new) }
+) -> i32
+    ensures kept { held handle.new ≡ held handle.old }
+    ensures told { AsksBytes
+        (λ index answer. FillsOrRefuses (pairs_between (slice_cmp nat_cmp) (bound_at low_kind
+        low.now) (bound_at high_kind high.now) index.pairs) answer keys.old keys.new entries.old
+        entries.new count.old count.new) (held handle.old) result }
+    ensures stays { UnlessBytes (held handle.old)
+        ((keys.new ≡ keys.old) × (entries.new ≡ entries.old) × (count.new ≡ count.old)) }
 {
     let Some(store) = handle.take(alloc) else {
         return MISFIT;
     };
-    let bounds = bounds_of(alloc, low_kind, low, high_kind, high);
-    let answer = fill(&store, bounds, false, keys, entries, count);
+    let answer = match store.bytes() {
+        Some(index) => {
+            let bounds = bounds_of(alloc, low_kind, low, high_kind, high);
+            fill(index, bounds, false, keys, entries, count)
+        }
+        None => MISFIT,
+    };
     *handle = Handle::leading_to(store);
     answer
 }
@@ -66,18 +73,25 @@ pub extern "C" fn tree_index_bytes_fill_back(
     keys: &mut [u8],
     entries: &mut [Entry],
     count: &mut usize,
-) -> u8
-    ensures { OnBytes
-        (λ old answer new. FillsOrRefuses
-        (reverse (pairs_between (slice_cmp nat_cmp) (bound_at low_kind low.now)
-        (bound_at high_kind high.now) old.pairs)) answer keys.old keys.new entries.old entries.new count.old count.new
-        × (new ≡ old)) (held handle.old) result (held handle.new) }
+) -> i32
+    ensures kept { held handle.new ≡ held handle.old }
+    ensures told { AsksBytes
+        (λ index answer. FillsOrRefuses (reverse (pairs_between (slice_cmp nat_cmp) (bound_at
+        low_kind low.now) (bound_at high_kind high.now) index.pairs)) answer keys.old keys.new
+        entries.old entries.new count.old count.new) (held handle.old) result }
+    ensures stays { UnlessBytes (held handle.old)
+        ((keys.new ≡ keys.old) × (entries.new ≡ entries.old) × (count.new ≡ count.old)) }
 {
     let Some(store) = handle.take(alloc) else {
         return MISFIT;
     };
-    let bounds = bounds_of(alloc, low_kind, low, high_kind, high);
-    let answer = fill(&store, bounds, true, keys, entries, count);
+    let answer = match store.bytes() {
+        Some(index) => {
+            let bounds = bounds_of(alloc, low_kind, low, high_kind, high);
+            fill(index, bounds, true, keys, entries, count)
+        }
+        None => MISFIT,
+    };
     *handle = Handle::leading_to(store);
     answer
 }
@@ -93,7 +107,7 @@ pub extern "C" fn tree_index_bytes_remove_range(
     low: &[u8],
     high_kind: u8,
     high: &[u8],
-) -> u8
+) -> i32
     ensures { OnBytes
         (λ old answer new.
         ((answer ≡ YES)
@@ -103,12 +117,21 @@ pub extern "C" fn tree_index_bytes_remove_range(
     let Some(mut store) = handle.take(alloc) else {
         return MISFIT;
     };
-    let bounds = bounds_of(alloc, low_kind, low, high_kind, high);
-    let answer = remove_range(&mut store, bounds);
+    let answer = match &mut *store {
+        Store::Bytes(index) => match bounds_of(alloc, low_kind, low, high_kind, high) {
+            Ok((low, high)) => {
+                index.remove_range_sync((low.as_ref(), high.as_ref()));
+                YES
+            }
+            Err(_) => NO_MEMORY,
+        },
+        _ => MISFIT,
+    };
     *handle = Handle::leading_to(store);
     answer
 }
 
+// Copies the key of a bound.
 fn bound_of(alloc: Global, kind: u8, key: &[u8]) -> Result<Bound<Bytes>, AllocError>
     ensures { IfOk result (λ bound. bound ≡ bound_at kind key.now) }
 {
@@ -134,42 +157,23 @@ fn bounds_of(
     Ok((low, high))
 }
 
-fn remove_range(store: &mut Store, bounds: Result<(Bound<Bytes>, Bound<Bytes>), AllocError>) -> u8
-    ensures { OnBytes
-        (λ old answer new. IfBounds bounds answer
-        (λ low high. (answer ≡ YES) × (new.pairs ≡ cut (slice_cmp nat_cmp) old.pairs low high)) (new ≡ old))
-        (Some store.old) result (Some store.new) }
-{
-    let Store::Bytes(index) = store else {
-        return MISFIT;
-    };
-    let Ok((low, high)) = bounds else {
-        return NO_MEMORY;
-    };
-    index.remove_range_sync((low.as_ref(), high.as_ref()));
-    YES
-}
-
+// Fills the places, and writes the count or the length that the first key needs.
+#[inline(always)]
 fn fill(
-    store: &Store,
+    index: &TreeIndex<Bytes, u64>,
     bounds: Result<(Bound<Bytes>, Bound<Bytes>), AllocError>,
     backwards: bool,
     keys: &mut [u8],
     entries: &mut [Entry],
     count: &mut usize,
-) -> u8
-    ensures { OnBytes
-        (λ old answer new. IfBounds bounds answer
+) -> i32
+    ensures { IfBounds bounds result
         (λ low high. FillsOrRefuses
         (along (way_of backwards)
-        (pairs_between
-        (slice_cmp nat_cmp) low high old.pairs)) answer keys.old keys.new entries.old entries.new count.old count.new)
-        ((keys.new ≡ keys.old) × (entries.new ≡ entries.old) × (count.new ≡ count.old)) × (new ≡ old))
-        (Some store.now) result (Some store.now) }
+        (pairs_between (slice_cmp nat_cmp) low high index.now.pairs))
+        result keys.old keys.new entries.old entries.new count.old count.new)
+        ((keys.new ≡ keys.old) × (entries.new ≡ entries.old) × (count.new ≡ count.old)) }
 {
-    let Store::Bytes(index) = store else {
-        return MISFIT;
-    };
     let Ok((low, high)) = bounds else {
         return NO_MEMORY;
     };
@@ -185,6 +189,8 @@ fn fill(
     }
 }
 
+// Inlined into both exports, so that each has the moves of one direction alone.
+#[inline(always)]
 fn fill_from(
     index: &TreeIndex<Bytes, u64>,
     bounds: (Bound<Bytes>, Bound<Bytes>),
@@ -220,6 +226,7 @@ fn fill_from(
     Ok(entries.len())
 }
 
+#[inline(always)]
 fn step<'t>(cursor: &mut Range<'t, Bytes, u64>, backwards: bool) -> Option<(&'t Bytes, &'t u64)>
     ensures { Moves (slice_cmp nat_cmp) (way_of backwards) cursor.old result cursor.new }
 {

@@ -23,7 +23,7 @@ pub extern "C" fn tree_index_bytes_from_sorted(
     handle: &mut Handle,
     keys: &[u8],
     entries: &[Entry],
-) -> u8
+) -> i32
     ensures { OpensParted keys.now entries.now (held handle.old) result (held handle.new) }
 {
     if handle.is_open {

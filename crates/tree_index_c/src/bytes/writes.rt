@@ -1,11 +1,11 @@
 //! Writes to an index whose keys are strings of bytes.
-ghost use Rattle.std.specs.Prelude.{◌≡◌, [], Some, ⊤};
+ghost use Rattle.std.specs.Prelude.{◌≡◌, ◌-◌, [], drop, length, take, ⊤};
 ghost use Rattle.std.specs.Cmp.Lexicographic.{slice_cmp};
 ghost use Rattle.std.specs.Ordering.{nat_cmp};
 ghost use Rattle.tree_leaf.specs.Walks.{first_of, last_of};
 ghost use Rattle.tree_index_c.specs.Answers.{OpensBytes, RemovesOrRefuses, Replaces, Stores, TakesOrRefuses};
 ghost use Rattle.tree_index_c.specs.Entries.{PopsEntry};
-ghost use Rattle.tree_index_c.specs.Held.{OnBytes, held};
+ghost use Rattle.tree_index_c.specs.Held.{OnBytes, UnlessOwnBytes, held};
 
 use crate::bytes::key::key_of;
 use crate::entry::{Entry, write_entry};
@@ -18,7 +18,7 @@ use tree_index::{InsertError, TreeIndex};
 
 /// Opens a closed handle on a new, empty index of byte strings. Allocates one block.
 #[unsafe(no_mangle)]
-pub extern "C" fn tree_index_bytes_new(alloc: Global, handle: &mut Handle) -> u8
+pub extern "C" fn tree_index_bytes_new(alloc: Global, handle: &mut Handle) -> i32
     ensures { OpensBytes [] (held handle.old) result (held handle.new) }
 {
     if handle.is_open {
@@ -36,14 +36,24 @@ pub extern "C" fn tree_index_bytes_insert(
     handle: &mut Handle,
     key: &[u8],
     value: u64,
-) -> u8
+) -> i32
     ensures { OnBytes (λ old. Stores (slice_cmp nat_cmp) ⊤ key.now value old)
         (held handle.old) result (held handle.new) }
 {
     let Some(mut store) = handle.take(alloc) else {
         return MISFIT;
     };
-    let answer = insert(&mut store, alloc, key, value);
+    let answer = match &mut *store {
+        Store::Bytes(index) => match key_of(alloc, key) {
+            Ok(key) => match index.insert_sync(key, value) {
+                Ok(()) => YES,
+                Err(InsertError::Duplicate(_, _)) => NO,
+                Err(InsertError::OutOfMemory(_, _)) => NO_MEMORY,
+            },
+            Err(_) => NO_MEMORY,
+        },
+        _ => MISFIT,
+    };
     *handle = Handle::leading_to(store);
     answer
 }
@@ -56,14 +66,23 @@ pub extern "C" fn tree_index_bytes_upsert(
     handle: &mut Handle,
     key: &[u8],
     value: u64,
-) -> u8
+) -> i32
     ensures { OnBytes (λ old. Replaces (slice_cmp nat_cmp) ⊤ key.now value old)
         (held handle.old) result (held handle.new) }
 {
     let Some(mut store) = handle.take(alloc) else {
         return MISFIT;
     };
-    let answer = upsert(&mut store, alloc, key, value);
+    let answer = match &mut *store {
+        Store::Bytes(index) => match key_of(alloc, key) {
+            Ok(key) => match index.upsert_sync(key, value) {
+                Ok(()) => YES,
+                Err(_) => NO_MEMORY,
+            },
+            Err(_) => NO_MEMORY,
+        },
+        _ => MISFIT,
+    };
     *handle = Handle::leading_to(store);
     answer
 }
@@ -71,14 +90,20 @@ pub extern "C" fn tree_index_bytes_upsert(
 /// Removes the pair with a key. Answers whether there was one. Runs in O(log n). Copies the key
 /// meanwhile.
 #[unsafe(no_mangle)]
-pub extern "C" fn tree_index_bytes_remove(alloc: Global, handle: &mut Handle, key: &[u8]) -> u8
+pub extern "C" fn tree_index_bytes_remove(alloc: Global, handle: &mut Handle, key: &[u8]) -> i32
     ensures { OnBytes (λ old. RemovesOrRefuses (slice_cmp nat_cmp) key.now old)
         (held handle.old) result (held handle.new) }
 {
     let Some(mut store) = handle.take(alloc) else {
         return MISFIT;
     };
-    let answer = remove(&mut store, alloc, key);
+    let answer = match &mut *store {
+        Store::Bytes(index) => match key_of(alloc, key) {
+            Ok(key) => { if index.remove_sync(&key) { YES } else { NO } }
+            Err(_) => NO_MEMORY,
+        },
+        _ => MISFIT,
+    };
     *handle = Handle::leading_to(store);
     answer
 }
@@ -91,159 +116,87 @@ pub extern "C" fn tree_index_bytes_take(
     handle: &mut Handle,
     key: &[u8],
     value: &mut u64,
-) -> u8
-    ensures { OnBytes (λ old answer new. TakesOrRefuses (slice_cmp nat_cmp) key.now old answer value.old value.new new)
-        (held handle.old) result (held handle.new) }
+) -> i32
+    ensures done { OnBytes
+        (λ old answer new. TakesOrRefuses (slice_cmp nat_cmp)
+        key.now old answer value.old value.new new) (held handle.old) result (held handle.new) }
+    ensures stays { UnlessOwnBytes (held handle.old) (value.new ≡ value.old) }
 {
     let Some(mut store) = handle.take(alloc) else {
         return MISFIT;
     };
-    let answer = take(&mut store, alloc, key, value);
+    let answer = match &mut *store {
+        Store::Bytes(index) => match key_of(alloc, key) {
+            Ok(key) => write_value(index.take_sync(&key).map(|(_, value)| value), value),
+            Err(_) => NO_MEMORY,
+        },
+        _ => MISFIT,
+    };
     *handle = Handle::leading_to(store);
     answer
 }
 
 /// Removes the pair with the smallest key and writes it. Answers `NO`, and writes nothing, if there
 /// is none, and `NO_ROOM` if the key has too few places: the pair stays then, and the entry tells
-/// its length. Runs in O(log n). Copies the key meanwhile.
+/// its length. Runs in O(log n). Allocates nothing.
+#[tactic(auto, using(crate::proofs::Popped::first_popped))]
 #[unsafe(no_mangle)]
 pub extern "C" fn tree_index_bytes_pop_first(
     alloc: Global,
     handle: &mut Handle,
     key: &mut [u8],
     entry: &mut Entry,
-) -> u8
-    ensures { OnBytes
-        (λ old answer new. PopsEntry (first_of old.pairs) old answer key.old key.new entry.old entry.new new)
-        (held handle.old) result (held handle.new) }
+) -> i32
+    ensures done { OnBytes
+        (λ old answer new. PopsEntry (first_of old.pairs) (drop 1 old.pairs)
+        old answer key.old key.new entry.old entry.new new) (held handle.old) result (held handle.new) }
+    ensures stays { UnlessOwnBytes (held handle.old) ((key.new ≡ key.old) × (entry.new ≡ entry.old)) }
 {
     let Some(mut store) = handle.take(alloc) else {
         return MISFIT;
     };
-    let answer = pop_first(&mut store, key, entry);
+    let answer = match &mut *store {
+        Store::Bytes(index) => {
+            let answer = write_entry(index.first(), key, entry);
+            if answer == YES {
+                drop(index.pop_first());
+            }
+            answer
+        }
+        _ => MISFIT,
+    };
     *handle = Handle::leading_to(store);
     answer
 }
 
 /// Removes the pair with the largest key and writes it. Answers as [`tree_index_bytes_pop_first`]
-/// does. Runs in O(log n). Copies the key meanwhile.
+/// does. Runs in O(log n). Allocates nothing.
+#[tactic(auto, using(crate::proofs::Popped::last_popped))]
 #[unsafe(no_mangle)]
 pub extern "C" fn tree_index_bytes_pop_last(
     alloc: Global,
     handle: &mut Handle,
     key: &mut [u8],
     entry: &mut Entry,
-) -> u8
-    ensures { OnBytes
-        (λ old answer new. PopsEntry (last_of old.pairs) old answer key.old key.new entry.old entry.new new)
-        (held handle.old) result (held handle.new) }
+) -> i32
+    ensures done { OnBytes
+        (λ old answer new. PopsEntry (last_of old.pairs) (take (length old.pairs - 1) old.pairs)
+        old answer key.old key.new entry.old entry.new new) (held handle.old) result (held handle.new) }
+    ensures stays { UnlessOwnBytes (held handle.old) ((key.new ≡ key.old) × (entry.new ≡ entry.old)) }
 {
     let Some(mut store) = handle.take(alloc) else {
         return MISFIT;
     };
-    let answer = pop_last(&mut store, key, entry);
+    let answer = match &mut *store {
+        Store::Bytes(index) => {
+            let answer = write_entry(index.last(), key, entry);
+            if answer == YES {
+                drop(index.pop_last());
+            }
+            answer
+        }
+        _ => MISFIT,
+    };
     *handle = Handle::leading_to(store);
-    answer
-}
-
-fn insert(store: &mut Store, alloc: Global, key: &[u8], value: u64) -> u8
-    ensures { OnBytes (λ old. Stores (slice_cmp nat_cmp) ⊤ key.now value old) (Some store.old) result (Some store.new) }
-{
-    let Store::Bytes(index) = store else {
-        return MISFIT;
-    };
-    let Ok(key) = key_of(alloc, key) else {
-        return NO_MEMORY;
-    };
-    match index.insert_sync(key, value) {
-        Ok(()) => YES,
-        Err(InsertError::Duplicate(_, _)) => NO,
-        Err(InsertError::OutOfMemory(_, _)) => NO_MEMORY,
-    }
-}
-
-fn upsert(store: &mut Store, alloc: Global, key: &[u8], value: u64) -> u8
-    ensures { OnBytes (λ old. Replaces (slice_cmp nat_cmp) ⊤ key.now value old)
-        (Some store.old) result (Some store.new) }
-{
-    let Store::Bytes(index) = store else {
-        return MISFIT;
-    };
-    let Ok(key) = key_of(alloc, key) else {
-        return NO_MEMORY;
-    };
-    match index.upsert_sync(key, value) {
-        Ok(()) => YES,
-        Err(_) => NO_MEMORY,
-    }
-}
-
-fn remove(store: &mut Store, alloc: Global, key: &[u8]) -> u8
-    ensures { OnBytes (λ old. RemovesOrRefuses (slice_cmp nat_cmp) key.now old)
-        (Some store.old) result (Some store.new) }
-{
-    let Store::Bytes(index) = store else {
-        return MISFIT;
-    };
-    let Ok(key) = key_of(alloc, key) else {
-        return NO_MEMORY;
-    };
-    if index.remove_sync(&key) { YES } else { NO }
-}
-
-fn take(store: &mut Store, alloc: Global, key: &[u8], value: &mut u64) -> u8
-    ensures { OnBytes (λ old answer new. TakesOrRefuses (slice_cmp nat_cmp) key.now old answer value.old value.new new)
-        (Some store.old) result (Some store.new) }
-{
-    let Store::Bytes(index) = store else {
-        return MISFIT;
-    };
-    let Ok(key) = key_of(alloc, key) else {
-        return NO_MEMORY;
-    };
-    let answer = write_value(index.peek(&key), value);
-    index.remove_sync(&key);
-    answer
-}
-
-fn pop_first(store: &mut Store, key: &mut [u8], entry: &mut Entry) -> u8
-    ensures { OnBytes
-        (λ old answer new. PopsEntry (first_of old.pairs) old answer key.old key.new entry.old entry.new new)
-        (Some store.old) result (Some store.new) }
-{
-    let Store::Bytes(index) = store else {
-        return MISFIT;
-    };
-    let Some((first, _)) = index.first() else {
-        return NO;
-    };
-    let Ok(gone) = first.clone() else {
-        return NO_MEMORY;
-    };
-    let answer = write_entry(index.first(), key, entry);
-    if answer == YES {
-        index.remove_sync(&gone);
-    }
-    answer
-}
-
-fn pop_last(store: &mut Store, key: &mut [u8], entry: &mut Entry) -> u8
-    ensures { OnBytes
-        (λ old answer new. PopsEntry (last_of old.pairs) old answer key.old key.new entry.old entry.new new)
-        (Some store.old) result (Some store.new) }
-{
-    let Store::Bytes(index) = store else {
-        return MISFIT;
-    };
-    let Some((last, _)) = index.last() else {
-        return NO;
-    };
-    let Ok(gone) = last.clone() else {
-        return NO_MEMORY;
-    };
-    let answer = write_entry(index.last(), key, entry);
-    if answer == YES {
-        index.remove_sync(&gone);
-    }
     answer
 }

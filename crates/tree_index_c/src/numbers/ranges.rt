@@ -1,5 +1,5 @@
 //! Ranges of keys that are numbers.
-ghost use Rattle.std.specs.Prelude.{◌≡◌, Some, reverse};
+ghost use Rattle.std.specs.Prelude.{◌≡◌, reverse};
 ghost use Rattle.std.specs.Ordering.{nat_cmp};
 ghost use Rattle.tree_model.specs.Ways.{along};
 ghost use Rattle.tree_model.specs.Rest.{Moves};
@@ -17,8 +17,8 @@ use std::ops::Bound;
 use tree_index::{Range, TreeIndex};
 
 /// Writes the first pairs whose keys are within both bounds, in ascending order, as many as there
-/// are places. Returns how many it wrote, and 0 if the handle holds no index of numbers. Runs in
-/// O(log n) and the number of places.
+/// are places. Returns how many it wrote, and 0 if the handle holds no index of numbers. Fewer than
+/// there are places means that there are no others. Runs in O(log n) and the number of places.
 #[unsafe(no_mangle)]
 pub extern "C" fn tree_index_fill(
     alloc: Global,
@@ -38,14 +38,17 @@ pub extern "C" fn tree_index_fill(
         return 0;
     };
     let bounds = (bound_of(low_kind, low), bound_of(high_kind, high));
-    let count = fill(&store, bounds, false, places);
+    let count = match store.numbers() {
+        Some(index) => fill_from(index, bounds, false, places),
+        None => 0,
+    };
     *handle = Handle::leading_to(store);
     count
 }
 
 /// Writes the last pairs whose keys are within both bounds, in descending order, as many as there
-/// are places. Returns how many it wrote, and 0 if the handle holds no index of numbers. Runs in
-/// O(log n) and the number of places.
+/// are places. Returns how many it wrote, and 0 if the handle holds no index of numbers. Fewer than
+/// there are places means that there are no others. Runs in O(log n) and the number of places.
 #[unsafe(no_mangle)]
 pub extern "C" fn tree_index_fill_back(
     alloc: Global,
@@ -65,7 +68,10 @@ pub extern "C" fn tree_index_fill_back(
         return 0;
     };
     let bounds = (bound_of(low_kind, low), bound_of(high_kind, high));
-    let count = fill(&store, bounds, true, places);
+    let count = match store.numbers() {
+        Some(index) => fill_from(index, bounds, true, places),
+        None => 0,
+    };
     *handle = Handle::leading_to(store);
     count
 }
@@ -80,7 +86,7 @@ pub extern "C" fn tree_index_remove_range(
     low: u64,
     high_kind: u8,
     high: u64,
-) -> u8
+) -> i32
     ensures { OnNumbers
         (λ old answer new. (answer ≡ YES)
         × (new.pairs ≡ cut nat_cmp old.pairs (bound_at low_kind low) (bound_at high_kind high)))
@@ -89,42 +95,21 @@ pub extern "C" fn tree_index_remove_range(
     let Some(mut store) = handle.take(alloc) else {
         return MISFIT;
     };
-    let answer = remove_range(&mut store, low_kind, low, high_kind, high);
+    let low = bound_of(low_kind, low);
+    let high = bound_of(high_kind, high);
+    let answer = match &mut *store {
+        Store::Numbers(index) => {
+            index.remove_range_sync((low.as_ref(), high.as_ref()));
+            YES
+        }
+        _ => MISFIT,
+    };
     *handle = Handle::leading_to(store);
     answer
 }
 
-fn remove_range(store: &mut Store, low_kind: u8, low: u64, high_kind: u8, high: u64) -> u8
-    ensures { OnNumbers
-        (λ old answer new. (answer ≡ YES)
-        × (new.pairs ≡ cut nat_cmp old.pairs (bound_at low_kind low) (bound_at high_kind high)))
-        (Some store.old) result (Some store.new) }
-{
-    let Store::Numbers(index) = store else {
-        return MISFIT;
-    };
-    let low = bound_of(low_kind, low);
-    let high = bound_of(high_kind, high);
-    index.remove_range_sync((low.as_ref(), high.as_ref()));
-    YES
-}
-
-fn fill(
-    store: &Store,
-    bounds: (Bound<u64>, Bound<u64>),
-    backwards: bool,
-    places: &mut [Pair],
-) -> usize
-    ensures { Fills as_pair
-        (along (way_of backwards)
-        (pairs_between nat_cmp bounds.0 bounds.1 (numbers_in (Some store.now)))) places.old result places.new }
-{
-    let Store::Numbers(index) = store else {
-        return 0;
-    };
-    fill_from(index, bounds, backwards, places)
-}
-
+// Inlined into both exports, so that each has the moves of one direction alone.
+#[inline(always)]
 fn fill_from(
     index: &TreeIndex<u64, u64>,
     bounds: (Bound<u64>, Bound<u64>),
@@ -149,6 +134,7 @@ fn fill_from(
     places.len()
 }
 
+#[inline(always)]
 fn step<'t>(cursor: &mut Range<'t, u64, u64>, backwards: bool) -> Option<(&'t u64, &'t u64)>
     ensures { Moves nat_cmp (way_of backwards) cursor.old result cursor.new }
 {

@@ -15,7 +15,7 @@ use tree_index::{FromSortedError, TreeIndex};
 /// they don't, or if two are equal. The handle stays closed then. Compares each key with the next,
 /// and gathers the pairs into whole leaves. Copies the pairs meanwhile.
 #[unsafe(no_mangle)]
-pub extern "C" fn tree_index_from_sorted(alloc: Global, handle: &mut Handle, pairs: &[Pair]) -> u8
+pub extern "C" fn tree_index_from_sorted(alloc: Global, handle: &mut Handle, pairs: &[Pair]) -> i32
     ensures { OpensSorted (map pair_of pairs.now) (held handle.old) result (held handle.new) }
 {
     if handle.is_open {

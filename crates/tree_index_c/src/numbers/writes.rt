@@ -1,10 +1,10 @@
 //! Writes to an index whose keys are numbers.
-ghost use Rattle.std.specs.Prelude.{◌≡◌, [], Some};
+ghost use Rattle.std.specs.Prelude.{◌≡◌, ◌-◌, [], drop, length, take};
 ghost use Rattle.std.specs.Option.{option_map};
 ghost use Rattle.std.specs.Ordering.{nat_cmp};
 ghost use Rattle.tree_leaf.specs.Walks.{first_of, last_of};
-ghost use Rattle.tree_index_c.specs.Answers.{OpensNumbers, Replaces, Says, Stores, Writes, left_of};
-ghost use Rattle.tree_index_c.specs.Held.{OnNumbers, held};
+ghost use Rattle.tree_index_c.specs.Answers.{OpensNumbers, Replaces, Says, Stores, Writes};
+ghost use Rattle.tree_index_c.specs.Held.{OnNumbers, UnlessOwnNumbers, held};
 ghost use Rattle.tree_index_c.specs.Pairs.{pair_of};
 ghost use Rattle.tree_model.specs.Pairs.{IsAbsent, IsPresent, pair_at, without};
 
@@ -17,7 +17,7 @@ use tree_index::{InsertError, TreeIndex};
 
 /// Opens a closed handle on a new, empty index of numbers. Allocates one block.
 #[unsafe(no_mangle)]
-pub extern "C" fn tree_index_new(alloc: Global, handle: &mut Handle) -> u8
+pub extern "C" fn tree_index_new(alloc: Global, handle: &mut Handle) -> i32
     ensures { OpensNumbers [] (held handle.old) result (held handle.new) }
 {
     if handle.is_open {
@@ -29,14 +29,21 @@ pub extern "C" fn tree_index_new(alloc: Global, handle: &mut Handle) -> u8
 /// Stores a pair if its key is absent. Answers `NO`, and changes nothing, if it is present. Runs in
 /// O(log n). Allocates at most a leaf, a node a level and a new root.
 #[unsafe(no_mangle)]
-pub extern "C" fn tree_index_insert(alloc: Global, handle: &mut Handle, key: u64, value: u64) -> u8
+pub extern "C" fn tree_index_insert(alloc: Global, handle: &mut Handle, key: u64, value: u64) -> i32
     ensures { OnNumbers (λ old. Stores nat_cmp (old.spare ≡ 0) key value old)
         (held handle.old) result (held handle.new) }
 {
     let Some(mut store) = handle.take(alloc) else {
         return MISFIT;
     };
-    let answer = insert(&mut store, key, value);
+    let answer = match &mut *store {
+        Store::Numbers(index) => match index.insert_sync(key, value) {
+            Ok(()) => YES,
+            Err(InsertError::Duplicate(_, _)) => NO,
+            Err(InsertError::OutOfMemory(_, _)) => NO_MEMORY,
+        },
+        _ => MISFIT,
+    };
     *handle = Handle::leading_to(store);
     answer
 }
@@ -44,21 +51,27 @@ pub extern "C" fn tree_index_insert(alloc: Global, handle: &mut Handle, key: u64
 /// Stores a pair, in place of one with an equal key. Answers `YES` either way. Runs in O(log n).
 /// Allocates at most a leaf, a node a level and a new root.
 #[unsafe(no_mangle)]
-pub extern "C" fn tree_index_upsert(alloc: Global, handle: &mut Handle, key: u64, value: u64) -> u8
+pub extern "C" fn tree_index_upsert(alloc: Global, handle: &mut Handle, key: u64, value: u64) -> i32
     ensures { OnNumbers (λ old. Replaces nat_cmp (old.spare ≡ 0) key value old)
         (held handle.old) result (held handle.new) }
 {
     let Some(mut store) = handle.take(alloc) else {
         return MISFIT;
     };
-    let answer = upsert(&mut store, key, value);
+    let answer = match &mut *store {
+        Store::Numbers(index) => match index.upsert_sync(key, value) {
+            Ok(()) => YES,
+            Err(_) => NO_MEMORY,
+        },
+        _ => MISFIT,
+    };
     *handle = Handle::leading_to(store);
     answer
 }
 
 /// Removes the pair with a key. Answers whether there was one. Runs in O(log n). Allocates nothing.
 #[unsafe(no_mangle)]
-pub extern "C" fn tree_index_remove(alloc: Global, handle: &mut Handle, key: u64) -> u8
+pub extern "C" fn tree_index_remove(alloc: Global, handle: &mut Handle, key: u64) -> i32
     ensures { OnNumbers
         (λ old answer new. Says (IsPresent nat_cmp old.pairs key) (IsAbsent nat_cmp old.pairs key) answer
         × (new.pairs ≡ without nat_cmp old.pairs key)) (held handle.old) result (held handle.new) }
@@ -66,7 +79,10 @@ pub extern "C" fn tree_index_remove(alloc: Global, handle: &mut Handle, key: u64
     let Some(mut store) = handle.take(alloc) else {
         return MISFIT;
     };
-    let answer = remove(&mut store, key);
+    let answer = match &mut *store {
+        Store::Numbers(index) => { if index.remove_sync(&key) { YES } else { NO } }
+        _ => MISFIT,
+    };
     *handle = Handle::leading_to(store);
     answer
 }
@@ -79,129 +95,63 @@ pub extern "C" fn tree_index_take(
     handle: &mut Handle,
     key: u64,
     value: &mut u64,
-) -> u8
-    ensures { OnNumbers
+) -> i32
+    ensures done { OnNumbers
         (λ old answer new. Writes
         (option_map (λ pair. pair.1) (pair_at nat_cmp old.pairs key)) answer value.old value.new
         × (new.pairs ≡ without nat_cmp old.pairs key)) (held handle.old) result (held handle.new) }
+    ensures stays { UnlessOwnNumbers (held handle.old) (value.new ≡ value.old) }
 {
     let Some(mut store) = handle.take(alloc) else {
         return MISFIT;
     };
-    let answer = take(&mut store, key, value);
+    let answer = match &mut *store {
+        Store::Numbers(index) => write_value(index.take_sync(&key).map(|(_, value)| value), value),
+        _ => MISFIT,
+    };
     *handle = Handle::leading_to(store);
     answer
 }
 
 /// Removes the pair with the smallest key and writes it. Answers `NO`, and writes nothing, if there
 /// is none. Runs in O(log n). Allocates nothing.
+#[tactic(auto, using(crate::proofs::Popped::first_popped))]
 #[unsafe(no_mangle)]
-pub extern "C" fn tree_index_pop_first(alloc: Global, handle: &mut Handle, pair: &mut Pair) -> u8
-    ensures { OnNumbers
+pub extern "C" fn tree_index_pop_first(alloc: Global, handle: &mut Handle, pair: &mut Pair) -> i32
+    ensures done { OnNumbers
         (λ old answer new. Writes (first_of old.pairs) answer (pair_of pair.old) (pair_of pair.new)
-        × (new.pairs ≡ left_of nat_cmp old.pairs (first_of old.pairs))) (held handle.old) result (held handle.new) }
+        × (new.pairs ≡ drop 1 old.pairs)) (held handle.old) result (held handle.new) }
+    ensures stays { UnlessOwnNumbers (held handle.old) (pair.new ≡ pair.old) }
 {
     let Some(mut store) = handle.take(alloc) else {
         return MISFIT;
     };
-    let answer = pop_first(&mut store, pair);
+    let answer = match &mut *store {
+        Store::Numbers(index) => write_pair(index.pop_first(), pair),
+        _ => MISFIT,
+    };
     *handle = Handle::leading_to(store);
     answer
 }
 
 /// Removes the pair with the largest key and writes it. Answers `NO`, and writes nothing, if there
 /// is none. Runs in O(log n). Allocates nothing.
+#[tactic(auto, using(crate::proofs::Popped::last_popped))]
 #[unsafe(no_mangle)]
-pub extern "C" fn tree_index_pop_last(alloc: Global, handle: &mut Handle, pair: &mut Pair) -> u8
-    ensures { OnNumbers
+pub extern "C" fn tree_index_pop_last(alloc: Global, handle: &mut Handle, pair: &mut Pair) -> i32
+    ensures done { OnNumbers
         (λ old answer new. Writes (last_of old.pairs) answer (pair_of pair.old) (pair_of pair.new)
-        × (new.pairs ≡ left_of nat_cmp old.pairs (last_of old.pairs))) (held handle.old) result (held handle.new) }
+        × (new.pairs ≡ take (length old.pairs - 1) old.pairs))
+        (held handle.old) result (held handle.new) }
+    ensures stays { UnlessOwnNumbers (held handle.old) (pair.new ≡ pair.old) }
 {
     let Some(mut store) = handle.take(alloc) else {
         return MISFIT;
     };
-    let answer = pop_last(&mut store, pair);
+    let answer = match &mut *store {
+        Store::Numbers(index) => write_pair(index.pop_last(), pair),
+        _ => MISFIT,
+    };
     *handle = Handle::leading_to(store);
-    answer
-}
-
-fn insert(store: &mut Store, key: u64, value: u64) -> u8
-    ensures { OnNumbers (λ old. Stores nat_cmp (old.spare ≡ 0) key value old) (Some store.old) result (Some store.new) }
-{
-    let Store::Numbers(index) = store else {
-        return MISFIT;
-    };
-    match index.insert_sync(key, value) {
-        Ok(()) => YES,
-        Err(InsertError::Duplicate(_, _)) => NO,
-        Err(InsertError::OutOfMemory(_, _)) => NO_MEMORY,
-    }
-}
-
-fn upsert(store: &mut Store, key: u64, value: u64) -> u8
-    ensures { OnNumbers (λ old. Replaces nat_cmp (old.spare ≡ 0) key value old)
-        (Some store.old) result (Some store.new) }
-{
-    let Store::Numbers(index) = store else {
-        return MISFIT;
-    };
-    match index.upsert_sync(key, value) {
-        Ok(()) => YES,
-        Err(_) => NO_MEMORY,
-    }
-}
-
-fn remove(store: &mut Store, key: u64) -> u8
-    ensures { OnNumbers
-        (λ old answer new. Says (IsPresent nat_cmp old.pairs key) (IsAbsent nat_cmp old.pairs key) answer
-        × (new.pairs ≡ without nat_cmp old.pairs key)) (Some store.old) result (Some store.new) }
-{
-    let Store::Numbers(index) = store else {
-        return MISFIT;
-    };
-    if index.remove_sync(&key) { YES } else { NO }
-}
-
-fn take(store: &mut Store, key: u64, value: &mut u64) -> u8
-    ensures { OnNumbers
-        (λ old answer new. Writes
-        (option_map (λ pair. pair.1) (pair_at nat_cmp old.pairs key)) answer value.old value.new
-        × (new.pairs ≡ without nat_cmp old.pairs key)) (Some store.old) result (Some store.new) }
-{
-    let Store::Numbers(index) = store else {
-        return MISFIT;
-    };
-    let answer = write_value(index.peek(&key), value);
-    index.remove_sync(&key);
-    answer
-}
-
-fn pop_first(store: &mut Store, pair: &mut Pair) -> u8
-    ensures { OnNumbers
-        (λ old answer new. Writes (first_of old.pairs) answer (pair_of pair.old) (pair_of pair.new)
-        × (new.pairs ≡ left_of nat_cmp old.pairs (first_of old.pairs))) (Some store.old) result (Some store.new) }
-{
-    let Store::Numbers(index) = store else {
-        return MISFIT;
-    };
-    let answer = write_pair(index.first(), pair);
-    if answer == YES {
-        index.remove_sync(&pair.key);
-    }
-    answer
-}
-
-fn pop_last(store: &mut Store, pair: &mut Pair) -> u8
-    ensures { OnNumbers
-        (λ old answer new. Writes (last_of old.pairs) answer (pair_of pair.old) (pair_of pair.new)
-        × (new.pairs ≡ left_of nat_cmp old.pairs (last_of old.pairs))) (Some store.old) result (Some store.new) }
-{
-    let Store::Numbers(index) = store else {
-        return MISFIT;
-    };
-    let answer = write_pair(index.last(), pair);
-    if answer == YES {
-        index.remove_sync(&pair.key);
-    }
     answer
 }

@@ -1,5 +1,5 @@
 use Rattle.tree_index_c.proofs.Prefixes.{shrinks}
-use Rattle.tree_index_c.proofs.bytes.prefixes.remove_with_prefix.Goals as goal
+use Rattle.tree_index_c.proofs.bytes.prefixes.tree_index_bytes_remove_prefix.Goals as goal
 
 -- the index has no more pairs than before
 pub overflow_sub-count : goal.overflow_sub-count
