@@ -45,7 +45,8 @@ pub fn store_by_lock<R: Threads + Wait + Copy + Send + 'static>(
     let index = Arc::new(alloc, Mutex::new(TreeIndex::new(alloc))).map_err(|_| AllocError)?;
     let mut workers = Vec::with_capacity(alloc, 8)?;
     for worker in 0..8 {
-        workers.push(start(rt, Arc::try_clone(&index)?, worker)?)?;
+        let worker = start(rt, Arc::try_clone(&index)?, worker)?;
+        workers.push(worker).map_err(|_| AllocError)?;
     }
     for worker in workers {
         worker.join(&rt)?;
