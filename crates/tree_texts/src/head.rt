@@ -43,13 +43,10 @@ pub fn cmp_headed(head: u64, bytes: &[u8], other_head: u64, other: &[u8]) -> Ord
     requires other { HasHead other_head other.now }
     ensures { result ≡ slice_cmp nat_cmp bytes.now other.now }
 {
-    if head < other_head {
-        Ordering::Less
-    } else if other_head < head {
-        Ordering::Greater
-    } else {
-        cmp_tied(head, bytes, other)
+    if head == other_head {
+        return cmp_tied(head, bytes, other);
     }
+    head.cmp(&other_head)
 }
 
 // Compares byte strings with the same head, eight bytes at a time.
