@@ -1,6 +1,7 @@
 -- What a replay has applied, and what is ahead of it.
-use Rattle.std.proofs.Common.{◌≡◌, ℕ, ◌<◌, ◌==◌, Bool, true, false, List, [], ◌∷◌, ◌++◌, length, map, Option, Some, None, refl, sym, ◌∙◌, ap, subst, arith, append_assoc}
+use Rattle.std.proofs.Common.{◌≡◌, ℕ, ◌<◌, ◌==◌, suc, Bool, true, false, List, [], ◌∷◌, ◌++◌, length, map, Option, Some, None, refl, sym, ◌∙◌, ap, subst, arith, append_assoc}
 use Rattle.std.proofs.lemmas.List.{append-nil, map-append}
+use Rattle.std.proofs.lemmas.Bool.Decides.{nat_tests}
 use Rattle.std.specs.Prelude.{Err, IsErrOf}
 use Rattle.std.specs.declared.cmp.Ordering.{Ordering}
 use Rattle.store_codec.specs.Records.{record_map}
@@ -43,10 +44,13 @@ behind_head file batch behind_ found head texts h =
 pub same_err : {T E : Type 0} (x y : E) → IsErrOf {T = T} {E = E} (Err x) y → x ≡ y
 same_err x y is = cc is
 
+not_zero : (n : ℕ) → (suc n == 0) ≡ true → ⊥
+not_zero n e = grind (arith, nat_tests, e)
+
 -- what a test for emptiness says
 pub is_nil : (l : List ℕ) (b : Bool) → b ≡ (length l == 0) → b ≡ true → l ≡ []
 is_nil [] b same test = refl
-is_nil (x ∷ l) b same test = let z : ⊥ = cc (sym same ∙ test) in absurd z
+is_nil (x ∷ l) b same test = absurd (not_zero (length l) (sym same ∙ test))
 
 pub not_nil : (l : List ℕ) (b : Bool) → b ≡ (length l == 0) → b ≡ false → 0 < length l
 not_nil [] b same test = let z : ⊥ = cc (sym same ∙ test) in absurd z

@@ -16,7 +16,7 @@ invariant_of-self g c =
     }
 
 pub returns-clause-left : goal.returns-clause-left
-returns-clause-left g c = rw (← c.self.view_is) c.clear.ensures.left
+returns-clause-left g c = c.clear.ensures.left
 
 pub returns-clause-refused : goal.returns-clause-refused
 returns-clause-refused g c = rw (← c.self.view_is) c.clear.ensures.refused

@@ -19,7 +19,7 @@ invariant_of-result g c =
     let key = g.K.Encode.seen in
     let value = g.V.Encode.seen in
     let read = record_at g.K.Encode.value_at g.V.Encode.value_at in
-    let kinds = (g.K.Encode.kind_number, g.V.Encode.kind_number) in
+    let kinds : ℕ × ℕ = (g.K.Encode.kind_number, g.V.Encode.kind_number) in
     let log = c.in-Ok.log in
     let same = c.in-Ok.ensures.made.0 in
     record {
@@ -29,7 +29,7 @@ invariant_of-result g c =
           rw (same, empty.0) empty.1;
       goes_on = λ runs clean.
           let empty = c.in-Ok.ensures.empty clean in
-          just_saved cmp key value read log.texts c.new-2.result.items c.new.result.pairs (rw (empty.0) c.new.ensures.pairs) c.new-2.ensures.items;
+          just_saved cmp key value read log.texts c.new-in-Ok.result.items c.new.result.pairs (rw (empty.0) c.new.ensures.pairs) c.new-in-Ok.ensures.items;
     }
 
 pub returns-in-Ok-clause-saved : goal.returns-in-Ok-clause-saved
@@ -39,3 +39,6 @@ pub returns-in-Ok-clause-leaves : goal.returns-in-Ok-clause-leaves
 returns-in-Ok-clause-leaves g c clean left may =
     let same = c.in-Ok.ensures.made.0 in
     record { head = c.in-Ok.log.head; are = (ap (λ h. h.kind_of_keys) same ∙ c.kind.ensures, ap (λ h. h.kind_of_values) same ∙ c.kind-2.ensures); texts = []; has = rw same ((c.in-Ok.ensures.empty clean).1 left.first may); leads = refl }
+
+pub returns-in-Err-clause-crash : goal.returns-in-Err-clause-crash
+returns-in-Err-clause-crash g c clean blank left may = c.in-Err.ensures.crash clean blank left.first may

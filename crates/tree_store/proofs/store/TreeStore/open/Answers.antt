@@ -1,4 +1,4 @@
-use Rattle.std.proofs.Common.{◌≡◌, ◌⊎◌, ◌≤◌, inl, inr, ℕ, List, [], ◌∷◌, ◌++◌, false, true, refl, sym, ◌∙◌, ap, subst, arith}
+use Rattle.std.proofs.Common.{◌≡◌, ◌⊎◌, ◌≤◌, inl, inr, ℕ, List, [], ◌∷◌, ◌++◌, false, true, refl, sym, ◌∙◌, ap, subst, arith, IsTrue, Err}
 use Rattle.std.proofs.lemmas.Bool.Decides.{nat_tests}
 use Rattle.store_codec.specs.Records.{record_at}
 use Rattle.store_log.specs.Head.{HasKinds}
@@ -7,6 +7,7 @@ use Rattle.tree_store.specs.Changes.{HaveRecords, Leads}
 use Rattle.tree_store.specs.Store.{HasSaved, Leave, StandFor, store_of}
 use Rattle.tree_store.proofs.Noted.{just_saved, leads_have}
 use Rattle.tree_store.proofs.Saved.{has_once, head_once, leave, stand}
+use Rattle.tree_node.proofs.Common.{fits}
 use Rattle.tree_store.proofs.store.TreeStore.open.Goals as goal
 
 pub returns-in-Err-clause-sound : goal.returns-in-Err-clause-sound
@@ -26,7 +27,7 @@ invariant_of-result g c =
     let key = g.K.Encode.seen in
     let value = g.V.Encode.seen in
     let read = record_at g.K.Encode.value_at g.V.Encode.value_at in
-    let kinds = (g.K.Encode.kind_number, g.V.Encode.kind_number) in
+    let kinds : ℕ × ℕ = (g.K.Encode.kind_number, g.V.Encode.kind_number) in
     let log = c.in-Ok.opened.0 in
     let kinds_are : HasKinds log.head kinds = (c.in-Ok.ensures.kinds.0 ∙ c.kind.ensures, c.in-Ok.ensures.kinds.1 ∙ c.kind-2.ensures) in
     record {
@@ -43,7 +44,7 @@ returns-in-Ok-replayed-clause-opened g c clean =
     let key = g.K.Encode.seen in
     let value = g.V.Encode.seen in
     let read = record_at g.K.Encode.value_at g.V.Encode.value_at in
-    let kinds = (g.K.Encode.kind_number, g.V.Encode.kind_number) in
+    let kinds : ℕ × ℕ = (g.K.Encode.kind_number, g.V.Encode.kind_number) in
     let log = c.in-Ok.opened.0 in
     let has = c.in-Ok.ensures.opened clean in
     let led = c.in-Ok-replayed.ensures.led log.head log.texts (subst (HasTexts log.head log.texts) (sym (c.deref.ensures.value ∙ c.in-Ok.ensures.bytes clean)) has) in
@@ -66,7 +67,7 @@ returns-in-Err-Memory-clause-crash g c clean pairs s left may =
     let key = g.K.Encode.seen in
     let value = g.V.Encode.seen in
     let read = record_at g.K.Encode.value_at g.V.Encode.value_at in
-    let kinds = (g.K.Encode.kind_number, g.V.Encode.kind_number) in
+    let kinds : ℕ × ℕ = (g.K.Encode.kind_number, g.V.Encode.kind_number) in
     let log = c.in-Ok.opened.0 in
     let clean_log = subst (λ (f : _). IsTrue (g.D.Disk.is_clean f.first)) c.of.ensures clean in
     let may_log = subst (λ (f : _). g.D.Disk.may_leave f.first left.first) c.of.ensures may in
@@ -79,7 +80,7 @@ returns-clause-crash g c clean pairs s left may =
     let key = g.K.Encode.seen in
     let value = g.V.Encode.seen in
     let read = record_at g.K.Encode.value_at g.V.Encode.value_at in
-    let kinds = (g.K.Encode.kind_number, g.V.Encode.kind_number) in
+    let kinds : ℕ × ℕ = (g.K.Encode.kind_number, g.V.Encode.kind_number) in
     let log = c.in-Ok.opened.0 in
     let clean_log = subst (λ (f : _). IsTrue (g.D.Disk.is_clean f.first)) c.of-in-Err-Unreadable.ensures clean in
     let may_log = subst (λ (f : _). g.D.Disk.may_leave f.first left.first) c.of-in-Err-Unreadable.ensures may in
@@ -92,10 +93,13 @@ returns-clause-sound g c clean refuses pairs s =
     let key = g.K.Encode.seen in
     let value = g.V.Encode.seen in
     let read = record_at g.K.Encode.value_at g.V.Encode.value_at in
-    let kinds = (g.K.Encode.kind_number, g.V.Encode.kind_number) in
+    let kinds : ℕ × ℕ = (g.K.Encode.kind_number, g.V.Encode.kind_number) in
     let log = c.in-Ok.opened.0 in
     let clean_log = subst (λ (f : _). IsTrue (g.D.Disk.is_clean f.first)) c.of-in-Err-Unreadable.ensures clean in
     let has = c.in-Ok.ensures.opened clean_log in
     let texts = has_once (g.D.Disk.seen c.args.files.first) log.head s.head log.texts s.texts has s.has in
     let have = subst (HaveRecords read) (sym texts) (leads_have cmp key value read s.texts [] pairs s.leads) in
     c.in-Err-Unreadable.ensures.sound (ap (λ x. Err x) c.in-Err-Unreadable.field-0-is) log.head log.texts (subst (HasTexts log.head log.texts) (sym (c.deref.ensures.value ∙ c.in-Ok.ensures.bytes clean_log)) has) have
+
+pub replayed-requires : goal.replayed-requires
+replayed-requires g c = search fits
