@@ -1,4 +1,4 @@
-//! Whole numbers and `bool` as bytes.
+//! Unsigned whole numbers, `bool` and `char` as bytes.
 
 use crate::{Encode, StoreKey};
 use std::alloc::{AllocError, Global};
@@ -139,6 +139,40 @@ impl Encode for u64 {
     }
 }
 
+impl StoreKey for u128 {
+    ghost use Rattle.store_codec.specs.Keys.{seen_numbers};
+
+    ghost seen_equal = { seen_numbers };
+}
+
+impl Encode for u128 {
+    ghost use Rattle.std.specs.Int.{w128, to_le_bytes};
+    ghost use Rattle.store_codec.specs.Numbers.{number_at};
+
+    ghost seen = { λ x. x };
+
+    ghost bytes_of = { to_le_bytes w128 };
+
+    ghost value_at = { number_at w128 16 };
+
+    ghost kind_number = { 7 };
+
+    fn kind() -> u32 {
+        7
+    }
+
+    fn push_to(&self, out: &mut Vec<u8>) -> Result<(), AllocError> {
+        out.extend_from_slice(&self.to_le_bytes())
+    }
+
+    fn take_from(_alloc: Global, bytes: &[u8]) -> Result<Option<(Self, &[u8])>, AllocError> {
+        let Some((first, rest)) = bytes.split_first_chunk::<16>() else {
+            return Ok(None);
+        };
+        Ok(Some((u128::from_le_bytes(*first), rest)))
+    }
+}
+
 impl StoreKey for bool {
     ghost use Rattle.store_codec.specs.Keys.{seen_booleans};
 
@@ -174,6 +208,45 @@ impl Encode for bool {
             0 => Ok(Some((false, rest))),
             1 => Ok(Some((true, rest))),
             _ => Ok(None),
+        }
+    }
+}
+
+impl StoreKey for char {
+    ghost use Rattle.store_codec.specs.Keys.{seen_numbers};
+
+    ghost seen_equal = { seen_numbers };
+}
+
+/// A `char` is stored as its code, in four bytes.
+impl Encode for char {
+    ghost use Rattle.std.specs.Int.{w32, to_le_bytes};
+    ghost use Rattle.store_codec.specs.Numbers.{char_at};
+
+    ghost seen = { λ x. x };
+
+    ghost bytes_of = { to_le_bytes w32 };
+
+    ghost value_at = { char_at };
+
+    ghost kind_number = { 6 };
+
+    fn kind() -> u32 {
+        6
+    }
+
+    fn push_to(&self, out: &mut Vec<u8>) -> Result<(), AllocError> {
+        let code = *self as u32;
+        out.extend_from_slice(&code.to_le_bytes())
+    }
+
+    fn take_from(_alloc: Global, bytes: &[u8]) -> Result<Option<(Self, &[u8])>, AllocError> {
+        let Some((first, rest)) = bytes.split_first_chunk::<4>() else {
+            return Ok(None);
+        };
+        match char::from_u32(u32::from_le_bytes(*first)) {
+            Some(value) => Ok(Some((value, rest))),
+            None => Ok(None),
         }
     }
 }
