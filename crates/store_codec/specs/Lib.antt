@@ -1,0 +1,4 @@
+pub mod Compound
+pub mod Keys
+pub mod Numbers
+pub mod Records

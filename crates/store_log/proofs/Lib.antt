@@ -1,0 +1,11 @@
+pub mod AtRest
+pub mod Causes
+pub mod Crash
+pub mod Examined
+pub mod Fresh
+pub mod Heads
+pub mod Ranges
+pub mod Returned
+pub mod Shut
+pub mod Steps
+pub mod Texts

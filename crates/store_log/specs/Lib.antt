@@ -1,0 +1,5 @@
+pub mod Cause
+pub mod Head
+pub mod Log
+pub mod Refusal
+pub mod Rest

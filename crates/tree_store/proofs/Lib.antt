@@ -1,0 +1,4 @@
+pub mod Alike
+pub mod Noted
+pub mod Replayed
+pub mod Saved

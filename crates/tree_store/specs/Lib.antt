@@ -1,0 +1,5 @@
+pub mod Changes
+pub mod Disks
+pub mod Laws
+pub mod Refusal
+pub mod Store
