@@ -1,4 +1,4 @@
-use Rattle.tree_set.proofs.elements.ElementsOverArenasOfUnitLeafOfUnitIterator.size_hint.Goals as goal
+use Rattle.tree_set.proofs.range.RangeOverArenasOfUnitLeafOfUnitIterator.size_hint.Goals as goal
 
 pub returns-clause-lower : goal.returns-clause-lower
 returns-clause-lower g c = c.size_hint.ensures.lower

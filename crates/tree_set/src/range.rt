@@ -1,12 +1,12 @@
-//! The elements of a set, from both ends.
+//! The elements of a range of a set, from both ends.
 ghost use Rattle.std.specs.Prelude.{◌≡◌};
 ghost use Rattle.std.specs.Iterator.{YieldsFirstRef, YieldsLastRef, item_count};
 ghost use Rattle.tree_cursors.specs.Ranged.{IsFresh, pairs_within};
-ghost use Rattle.tree_set.specs.Sets.{IsAscending, keys_of};
+ghost use Rattle.tree_set.specs.Sets.{keys_of};
 
 use std::iter::FusedIterator;
 use std::marker::Model;
-use tree_cursors::range::{RangeOf, RangeOver, Ranged};
+use tree_cursors::range::{RangeOf as PairsOf, RangeOver as PairsOver, Ranged};
 use tree_leaf::Walked;
 use tree_leaf::leaf::LeafOf;
 use tree_node::node::ArenasOf;
@@ -15,21 +15,24 @@ use tree_node::node::ArenasOf;
 ///
 /// Contracts see the list of these elements, in ascending order.
 #[derive(Drop)]
-pub struct ElementsOver<'t, K: Ord, A: Ranged<K, (), L>, L: Walked> {
-    pairs: RangeOver<'t, K, (), A, L>,
+pub struct RangeOver<'t, K: Ord, A: Ranged<K, (), L>, L: Walked> {
+    pairs: PairsOver<'t, K, (), A, L>,
 }
 
-/// The elements of a set or of a range of it, with up to `LEN` elements a leaf.
-pub type Elements<'t, K, const LEN: usize> = ElementsOver<
+/// The elements of a range of a set, from both ends, with up to `LEN` elements a leaf.
+pub type RangeOf<'t, K, const LEN: usize> = RangeOver<
     't,
     K,
     ArenasOf<K, (), LEN>,
     LeafOf<K, (), LEN>,
 >;
 
-impl<'t, K: Ord, A: Ranged<K, (), L>, L: Walked> Model for ElementsOver<'t, K, A, L> {
+/// The elements of a range of a set, from both ends, with up to fifteen elements a leaf.
+pub type Range<'t, K> = RangeOf<'t, K, 15>;
+
+impl<'t, K: Ord, A: Ranged<K, (), L>, L: Walked> Model for RangeOver<'t, K, A, L> {
     ghost use Rattle.std.specs.Prelude.{List};
-    ghost use Rattle.tree_set.specs.Elements.{HasBegunBoth, left_of};
+    ghost use Rattle.tree_set.specs.Ranged.{HasBegunBoth, left_of};
 
     ghost Value = { List K };
 
@@ -38,33 +41,23 @@ impl<'t, K: Ord, A: Ranged<K, (), L>, L: Walked> Model for ElementsOver<'t, K, A
     ghost invariant = { λ a. HasBegunBoth K.cmp a.pairs };
 }
 
-impl<'t, K: Ord + Drop + 't, const LEN: usize> ElementsOver<
+impl<'t, K: Ord + Drop + 't, const LEN: usize> RangeOver<
     't,
     K,
     ArenasOf<K, (), LEN>,
     LeafOf<K, (), LEN>,
 > {
     // Returns the elements of the pairs of a cursor that was never moved. Runs in constant time.
-    pub(crate) fn new(pairs: RangeOf<'t, K, (), LEN>) -> Self
+    pub(crate) fn new(pairs: PairsOf<'t, K, (), LEN>) -> Self
         requires { IsFresh pairs }
         ensures { result ≡ keys_of (pairs_within K.cmp pairs.entry) }
     {
-        ElementsOver { pairs }
-    }
-
-    // Takes the first element, and tells that the elements ascend.
-    #[inline(always)]
-    pub(crate) fn take_first(&mut self) -> Option<&'t K>
-        ensures taken { YieldsFirstRef (λ s. s) self.old result self.new }
-        ensures ascending { IsAscending K.cmp self.old }
-    {
-        let (element, _) = self.pairs.next()?;
-        Some(element)
+        RangeOver { pairs }
     }
 }
 
 impl<'t, K: Ord + Drop + 't, const LEN: usize> Iterator
-    for ElementsOver<'t, K, ArenasOf<K, (), LEN>, LeafOf<K, (), LEN>> {
+    for RangeOver<'t, K, ArenasOf<K, (), LEN>, LeafOf<K, (), LEN>> {
     type Item = &'t K;
 
     ghost next_gives = { YieldsFirstRef (λ s. s) };
@@ -73,12 +66,13 @@ impl<'t, K: Ord + Drop + 't, const LEN: usize> Iterator
 
     #[inline(always)]
     fn next(&mut self) -> Option<&'t K> {
-        self.take_first()
+        let (element, _) = self.pairs.next()?;
+        Some(element)
     }
 }
 
 impl<'t, K: Ord + Drop + 't, const LEN: usize> DoubleEndedIterator
-    for ElementsOver<'t, K, ArenasOf<K, (), LEN>, LeafOf<K, (), LEN>> {
+    for RangeOver<'t, K, ArenasOf<K, (), LEN>, LeafOf<K, (), LEN>> {
     ghost next_back_gives = { YieldsLastRef (λ s. s) };
 
     #[inline(always)]
@@ -89,4 +83,4 @@ impl<'t, K: Ord + Drop + 't, const LEN: usize> DoubleEndedIterator
 }
 
 impl<'t, K: Ord + Drop + 't, const LEN: usize> FusedIterator
-    for ElementsOver<'t, K, ArenasOf<K, (), LEN>, LeafOf<K, (), LEN>> {}
+    for RangeOver<'t, K, ArenasOf<K, (), LEN>, LeafOf<K, (), LEN>> {}

@@ -1,5 +1,5 @@
 use Rattle.tree_set.proofs.Moves.{begun_back, last_progress, takes_back}
-use Rattle.tree_set.proofs.elements.ElementsOverArenasOfUnitLeafOfUnitDoubleEndedIterator.next_back.Goals as goal
+use Rattle.tree_set.proofs.range.RangeOverArenasOfUnitLeafOfUnitDoubleEndedIterator.next_back.Goals as goal
 
 pub invariant_of-self : goal.invariant_of-self
 invariant_of-self g c = begun_back g.met.K.Ord.total _ _ _ c.in_err-element.ensures.steps c.self.invariant

@@ -1,4 +1,4 @@
-use Rattle.tree_set.proofs.elements.ElementsOver+K+ArenasOf+K+unit+LEN+LeafOf+K+unit+LEN.new.Goals as goal
+use Rattle.tree_set.proofs.range.RangeOver+K+ArenasOf+K+unit+LEN+LeafOf+K+unit+LEN.new.Goals as goal
 
 pub invariant_of-result : goal.invariant_of-result
 invariant_of-result g c = record {

@@ -1,0 +1,56 @@
+//! Removals that return the element.
+ghost use Rattle.std.specs.Prelude.{◌≡◌};
+ghost use Rattle.std.specs.Map.Iter.{TakesFirst, TakesLast};
+ghost use Rattle.tree_set.specs.Sets.{element_at, without};
+
+use crate::set::TreeSetOf;
+use tree_index::IndexKey;
+
+impl<K: IndexKey, const LEN: usize> TreeSetOf<K, LEN> {
+    /// Removes the element that equals the given one and returns it, as it was stored, or `None` if
+    /// there is none.
+    ///
+    /// Costs what [`take_sync`](tree_index::TreeIndexOf::take_sync) does: a descent, and one more
+    /// if the element is the only one in its leaf. Allocates nothing.
+    ///
+    /// ```
+    /// let Some(stored) = set.take(&element) else {
+    ///     return false;
+    /// };
+    /// ```
+    pub fn take(&mut self, element: &K) -> Option<K>
+        ensures taken { result ≡ element_at K.cmp self.old element.now }
+        ensures left { self.new ≡ without K.cmp self.old element.now }
+    {
+        let (stored, _) = self.index.take_sync(element)?;
+        Some(stored)
+    }
+
+    /// Removes the smallest element and returns it, or `None` if the set is empty.
+    ///
+    /// Costs what [`pop_first`](tree_index::TreeIndexOf::pop_first) does: two descents, and one
+    /// more if the element is the only one in its leaf. Allocates nothing.
+    ///
+    /// ```
+    /// let first = set.pop_first();
+    /// ```
+    pub fn pop_first(&mut self) -> Option<K>
+        ensures { TakesFirst (λ element. element) self.old result self.new }
+    {
+        let (element, _) = self.index.pop_first()?;
+        Some(element)
+    }
+
+    /// Removes the largest element and returns it, or `None` if the set is empty. Costs what
+    /// [`pop_first`](TreeSetOf::pop_first) does.
+    ///
+    /// ```
+    /// let last = set.pop_last();
+    /// ```
+    pub fn pop_last(&mut self) -> Option<K>
+        ensures { TakesLast (λ element. element) self.old result self.new }
+    {
+        let (element, _) = self.index.pop_last()?;
+        Some(element)
+    }
+}
