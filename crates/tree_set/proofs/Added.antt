@@ -1,5 +1,5 @@
 -- Elements that are added one after another, and elements that ascend.
-use Rattle.std.proofs.Common.{◌≡◌, ℕ, ◌+◌, ◌<◌, suc, List, [], ◌∷◌, ◌++◌, length, slice_index_or, Bool, true, false, Ok, Err, Result, if◌then◌else◌, refl, sym, ap, ◌∙◌, arith, is_lt, Ordering, Less}
+use Rattle.std.proofs.Common.{◌≡◌, ℕ, ◌+◌, ◌<◌, zero, suc, add-one, List, [], ◌∷◌, ◌++◌, length, slice_index_or, Bool, true, false, Ok, Err, Result, if◌then◌else◌, refl, sym, ap, ◌∙◌, arith, is_lt, Ordering, Less}
 use Rattle.tree_model.proofs.Common.{IsTotalOrder, AllByRecursion}
 use Rattle.std.proofs.lemmas.List.Sums.{fold_push}
 use Rattle.std.specs.List.{AllAdjacentBelow, IsAllAdjacentAnswer}
@@ -23,7 +23,7 @@ module _ {K : Type 0} {cmp : K → K → Ordering} (o : IsTotalOrder cmp) where
   less_from_test c h = grind arith
 
   tail_adjacent : (x : K) (xs : List K) → AllAdjacentBelow (λ a b. true ≡ is_lt (cmp a b)) (x ∷ xs) (suc (length xs)) → AllAdjacentBelow (λ a b. true ≡ is_lt (cmp a b)) xs (length xs)
-  tail_adjacent x xs all = λ k d less. all (suc k) d (omega arith)
+  tail_adjacent x xs all = λ k d less. simp add-one (simp add-one at (all (suc k) d (omega (arith, less))))
 
   pub adjacent_ascend : (xs : List K) → AllAdjacentBelow (λ a b. true ≡ is_lt (cmp a b)) xs (length xs) → IsAscending cmp xs
   adjacent_ascend [] all = tt
@@ -36,8 +36,8 @@ module _ {K : Type 0} {cmp : K → K → Ordering} (o : IsTotalOrder cmp) where
   pub ascend_adjacent : (xs : List K) → IsAscending cmp xs → (k : ℕ) (d : K) → k + 1 < length xs → is_lt (cmp (slice_index_or xs k d) (slice_index_or xs (k + 1) d)) ≡ true
   ascend_adjacent [] h k d less = absurd (omega (arith, less))
   ascend_adjacent (x ∷ []) h k d less = absurd (omega (arith, less))
-  ascend_adjacent (x ∷ y ∷ ys) h 0 d less = rw h.0.0 refl
-  ascend_adjacent (x ∷ y ∷ ys) h (suc k) d less = ascend_adjacent (y ∷ ys) h.1 k d (omega (arith, less))
+  ascend_adjacent (x ∷ y ∷ ys) h zero d less = rw h.0.0 refl
+  ascend_adjacent (x ∷ y ∷ ys) h (suc k) d less = simp add-one (simp add-one at (ascend_adjacent (y ∷ ys) h.1 k d (omega (arith, less))))
 
   pub tells_ascending : (xs : List K) (told : Bool) → IsAllAdjacentAnswer (λ a b c. c ≡ is_lt (cmp a b)) xs told → IsTrue told ↔ IsAscending cmp xs
   tells_ascending xs true all = ((λ yes. adjacent_ascend xs all), (λ ascending. refl))

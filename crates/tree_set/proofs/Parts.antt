@@ -18,15 +18,6 @@ use Rattle.tree_model.specs.Pairs as pairs
 abbrev pub key_of : {K V : Type 0} → Option (K × V) → Option K
 key_of r = option_map (λ pair. pair.0) r
 
-module _ {K V : Type 0} (old new : List (K × V)) where
-  pub first_taken : (r : Option (K × V)) → TakesFirst (λ pair. pair) old r new → TakesFirst (λ x. x) (keys_of old) (key_of r) (keys_of new)
-  first_taken None takes = (ap keys_of takes.0, ap keys_of takes.1)
-  first_taken (Some p) takes = ap keys_of takes
-
-  pub last_taken : (r : Option (K × V)) → TakesLast (λ pair. pair) old r new → TakesLast (λ x. x) (keys_of old) (key_of r) (keys_of new)
-  last_taken None takes = (ap keys_of takes.0, ap keys_of takes.1)
-  last_taken (Some p) takes = ap keys_of takes ∙ map-append (λ pair. pair.0) new (p ∷ [])
-
 module _ {K V : Type 0} (cmp : K → K → Ordering) (l : List (K × V)) (k : K) where
   pub taken_key : (r : Option (K × V)) → r ≡ pairs.pair_at cmp l k → key_of r ≡ element_at cmp (keys_of l) k
   taken_key r is = ap key_of is ∙ keys-find (λ x. is_eq (cmp x k)) l
@@ -56,19 +47,19 @@ module _ {K : Type 0} where
   keys_again [] = refl
   keys_again (x ∷ xs) = ap (λ (l : List K). x ∷ l) (keys_again xs)
 
+same_then : (o : Ordering) → ordering_then o Equal ≡ o
+same_then Less = refl
+same_then Equal = refl
+same_then Greater = refl
+
+same_partial : (o : Option Ordering) → partial_ordering_then o (Some Equal) ≡ o
+same_partial None = refl
+same_partial (Some Less) = refl
+same_partial (Some Equal) = refl
+same_partial (Some Greater) = refl
+
 -- lists of pairs whose values are all equal compare as their keys do
 module _ {K V : Type 0} where
-  same_then : (o : Ordering) → ordering_then o Equal ≡ o
-  same_then Less = refl
-  same_then Equal = refl
-  same_then Greater = refl
-
-  same_partial : (o : Option Ordering) → partial_ordering_then o (Some Equal) ≡ o
-  same_partial None = refl
-  same_partial (Some Less) = refl
-  same_partial (Some Equal) = refl
-  same_partial (Some Greater) = refl
-
   pub keys_order : (c : K → K → Ordering) (d : V → V → Ordering) → ((u v : V) → d u v ≡ Equal) → (l m : List (K × V)) → slice_cmp (λ p q. ordering_then (c p.0 q.0) (d p.1 q.1)) l m ≡ slice_cmp c (keys_of l) (keys_of m)
   keys_order c d same [] [] = refl
   keys_order c d same [] (q ∷ qs) = refl

@@ -1,5 +1,6 @@
 -- Subsets, and sets with nothing in common, from what one of two has alone and what both have.
-use Rattle.std.proofs.Common.{◌≡◌, Bool, true, false, not, ◌&&◌, ◌||◌, List, [], ◌∷◌, Option, Some, None, Bor, refl, sym, ap, ◌∙◌, inl, inr, is_eq, Ordering}
+use mathlib.Core.Bool.{beq}
+use Rattle.std.proofs.Common.{◌≡◌, Bool, true, false, not, ◌&&◌, ◌||◌, List, [], ◌∷◌, Option, Some, None, Bor, is_some, refl, sym, ap, ◌∙◌, inl, inr, is_eq, Ordering}
 use Rattle.tree_model.proofs.Common.{IsTotalOrder, AllByRecursion, tied_itself}
 use Rattle.tree_array.proofs.Common.{equal_from_test}
 use Rattle.std.proofs.lemmas.Bool.{cases_Bool}
@@ -9,10 +10,27 @@ use Rattle.tree_set.specs.Merges.{AreDisjoint, IsSubset, difference, intersectio
 use Rattle.tree_set.specs.Sets.{has}
 use Rattle.tree_set.proofs.Merged.{alone_elements, common_elements, same_has}
 
--- nothing was given where nothing was left
-pub none_given : {K : Type 0} (s t : List K) (r : Option (Bor K)) (is_none : Bool) → YieldsFirstRef (λ l. l) s r t → IsTrue is_none ↔ (r ≡ None) → IsTrue is_none ↔ (s ≡ [])
-none_given s t None is_none gave told = ((λ yes. gave.0), (λ none. told.1 refl))
-none_given s t (Some x) is_none gave told = ((λ yes. absurd (let none = told.0 yes in cc)), (λ none. absurd (cc (gave, none))))
+true_from_not : (b : Bool) → not b ≡ false → b ≡ true
+true_from_not true h = refl
+true_from_not false h = absurd (cc)
+
+-- two answers that are the same, or not
+pub same_answer : (a b : Bool) → not (beq a b) ≡ false → a ≡ b
+same_answer true true h = refl
+same_answer true false h = absurd (cc)
+same_answer false true h = absurd (cc)
+same_answer false false h = refl
+
+pub other_answer : (a b : Bool) → not (beq a b) ≡ true → (a ≡ b) → ⊥
+other_answer true true h same = cc
+other_answer true false h same = cc
+other_answer false true h same = cc
+other_answer false false h same = cc
+
+-- nothing was given exactly if nothing was left
+pub none_given : {K : Type 0} (s t : List K) (r : Option (Bor K)) (told : Bool) → YieldsFirstRef (λ l. l) s r t → is_some r ≡ not told → IsTrue told ↔ (s ≡ [])
+none_given s t None told gave says = ((λ yes. gave.0), (λ none. true_from_not told (sym says)))
+none_given s t (Some x) told gave says = ((λ yes. absurd (let no = rw yes at says in cc)), (λ none. absurd (let two = sym gave ∙ none in cc)))
 
 module _ {K : Type 0} {cmp : K → K → Ordering} (o : IsTotalOrder cmp) where
   -- a list without an element is empty
@@ -21,10 +39,6 @@ module _ {K : Type 0} {cmp : K → K → Ordering} (o : IsTotalOrder cmp) where
   none_had (x ∷ xs) none = absurd (let no = rw (tied_itself o x) at (none x) in cc)
 
   module _ (xs ys : List K) where
-    true_from_not : (b : Bool) → not b ≡ false → b ≡ true
-    true_from_not true h = refl
-    true_from_not false h = absurd (cc)
-
     pub subset_alone : IsSubset cmp xs ys → difference cmp xs ys ≡ []
     subset_alone all = none_had (difference cmp xs ys) (λ k. alone_elements o xs ys k ∙ by_first k (has cmp xs k) refl)
       where
@@ -59,11 +73,11 @@ module _ {K : Type 0} {cmp : K → K → Ordering} (o : IsTotalOrder cmp) where
   module _ (ys : List K) (found : Bool) where
     pub all_had : (xs : List K) → AllByRecursion (λ x. has cmp ys x ≡ found) xs → (k : K) → has cmp xs k ≡ true → has cmp ys k ≡ found
     all_had [] all k here = absurd (cc)
-    all_had (x ∷ xs) all k here = by_test (is_eq (cmp x k)) refl here
+    all_had (x ∷ xs) all k here = by_test (is_eq (cmp x k)) refl here (λ h. all_had xs all.1 k h)
       where
-        by_test : (b : Bool) → is_eq (cmp x k) ≡ b → (b || has cmp xs k) ≡ true → has cmp ys k ≡ found
-        by_test true same h = sym (same_has o x k (equal_from_test (cmp x k) same) ys) ∙ all.0
-        by_test false same h = all_had xs all.1 k h
+        by_test : (b : Bool) → is_eq (cmp x k) ≡ b → (b || has cmp xs k) ≡ true → (has cmp xs k ≡ true → has cmp ys k ≡ found) → has cmp ys k ≡ found
+        by_test true same h later = sym (same_has o x k (equal_from_test (cmp x k) same) ys) ∙ all.0
+        by_test false same h later = later h
 
     or_true : (b c : Bool) → c ≡ true → (b || c) ≡ true
     or_true true c h = refl

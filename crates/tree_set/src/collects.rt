@@ -35,17 +35,16 @@ impl<K> fmt::Display for FromSortedError<K> {
 impl<K: fmt::Debug + Drop> Error for FromSortedError<K> {}
 
 impl<K: IndexKey, const LEN: usize> TreeSetOf<K, LEN> {
-    /// Inserts each element of an iterator. One that equals a stored element is dropped, so of equal
-    /// elements the first one stays.
+    /// Inserts each element of an iterator. One that equals a stored element is dropped, so of
+    /// equal elements the first one stays.
     ///
     /// Returns `Err` with the first element for which an allocation fails, and takes no element
     /// after it. The elements before it stay stored. Costs what [`insert`](TreeSetOf::insert) does
     /// for each element. The iterator must end.
     ///
     /// ```
-    /// match set.try_extend(elements) {
-    ///     Ok(()) => Ok(()),
-    ///     Err(_) => Err(AllocError),
+    /// pub fn add_each(numbers: &mut TreeSet<u64>, more: Vec<u64>) -> Result<(), u64> {
+    ///     numbers.try_extend(more)
     /// }
     /// ```
     pub fn try_extend<U: IntoIterator<Item = K>>(&mut self, elements: U) -> Result<(), K>
@@ -71,7 +70,14 @@ impl<K: IndexKey, const LEN: usize> TreeSetOf<K, LEN> {
     /// move through. The caller must choose 7 or 15 for `LEN`.
     ///
     /// ```
-    /// TreeSetOf::from_sorted(alloc, elements)
+    /// pub fn of_ascending(
+    ///     alloc: Global,
+    ///     numbers: Vec<u64>,
+    /// ) -> Result<TreeSet<u64>, FromSortedError<u64>>
+    ///     ensures { BuildsSorted nat_cmp numbers.items result }
+    /// {
+    ///     TreeSetOf::from_sorted(alloc, numbers)
+    /// }
     /// ```
     pub fn from_sorted(alloc: Global, elements: Vec<K>) -> Result<Self, FromSortedError<K>>
         requires { IsLen LEN }

@@ -6,7 +6,7 @@ ghost use Rattle.tree_model.specs.Located.{located};
 ghost use Rattle.tree_set.specs.Sets.{at_or_above, at_or_below, in_pairs};
 
 use crate::set::TreeSetOf;
-use tree_index::{IndexKey, IterOf as PairsOf, ProximityOf};
+use tree_index::{IndexKey, ProximityOf};
 
 impl<K: IndexKey, const LEN: usize> TreeSetOf<K, LEN> {
     /// Returns the smallest element, or `None` if the set is empty. Descends once, and makes no
@@ -39,7 +39,12 @@ impl<K: IndexKey, const LEN: usize> TreeSetOf<K, LEN> {
     /// if every element is larger. Costs what [`locate`](TreeSetOf::locate) does.
     ///
     /// ```
-    /// let below = set.at_or_below(&number).copied();
+    /// pub fn nearest(numbers: &TreeSet<u64>, number: u64) -> (Option<&u64>, Option<&u64>)
+    ///     ensures below { option_copied result.0 ≡ at_or_below nat_cmp numbers.now number }
+    ///     ensures above { option_copied result.1 ≡ at_or_above nat_cmp numbers.now number }
+    /// {
+    ///     (numbers.at_or_below(&number), numbers.at_or_above(&number))
+    /// }
     /// ```
     pub fn at_or_below(&self, element: &K) -> Option<&K>
         ensures { option_copied result ≡ at_or_below K.cmp self.now element.now }
@@ -52,7 +57,12 @@ impl<K: IndexKey, const LEN: usize> TreeSetOf<K, LEN> {
     /// if every element is smaller. Costs what [`locate`](TreeSetOf::locate) does.
     ///
     /// ```
-    /// let above = set.at_or_above(&number).copied();
+    /// pub fn nearest(numbers: &TreeSet<u64>, number: u64) -> (Option<&u64>, Option<&u64>)
+    ///     ensures below { option_copied result.0 ≡ at_or_below nat_cmp numbers.now number }
+    ///     ensures above { option_copied result.1 ≡ at_or_above nat_cmp numbers.now number }
+    /// {
+    ///     (numbers.at_or_below(&number), numbers.at_or_above(&number))
+    /// }
     /// ```
     pub fn at_or_above(&self, element: &K) -> Option<&K>
         ensures { option_copied result ≡ at_or_above K.cmp self.now element.now }
@@ -65,14 +75,16 @@ impl<K: IndexKey, const LEN: usize> TreeSetOf<K, LEN> {
     /// index at that place. Its pairs are of an element and `()`.
     ///
     /// Descends once, or twice if every element is smaller. Makes at most `4 * (depth + 1) + 2`
-    /// comparisons with 15 elements a leaf, and `3 * (depth + 1) + 2` with 7, and allocates nothing.
+    /// comparisons with 15 elements a leaf, and `3 * (depth + 1) + 2` with 7. Allocates nothing.
     ///
     /// ```
-    /// let ProximityOf::Between(ends) = set.locate(&number) else {
-    ///     return false;
+    /// let ProximityOf::Between(at) = numbers.locate(&number) else {
+    ///     return None;
     /// };
+    /// let ((below, _), (above, _)) = (at.get()?, at.get_back()?);
+    /// Some((*below, *above))
     /// ```
-    pub fn locate(&self, element: &K) -> ProximityOf<PairsOf<'_, K, (), LEN>>
+    pub fn locate(&self, element: &K) -> ProximityOf<tree_index::IterOf<'_, K, (), LEN>>
         ensures { result ≡ located K.cmp (in_pairs self.now) element.now }
     {
         self.index.locate(element)

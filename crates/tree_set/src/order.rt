@@ -10,10 +10,6 @@ use tree_index::IndexKey;
 /// Sets are ordered as the lists of their elements are: the first two elements that differ decide,
 /// and if none do, the set with more elements is greater. Compares each element until one differs.
 /// Allocates nothing.
-///
-/// ```
-/// assert!(rt; first.partial_cmp(second) == Some(order));
-/// ```
 impl<K: IndexKey, const LEN: usize> PartialOrd for TreeSetOf<K, LEN> {
     ghost partial_cmp = { slice_partial_cmp K.partial_cmp };
 
@@ -40,12 +36,6 @@ impl<K: IndexKey, const LEN: usize> Ord for TreeSetOf<K, LEN> {
 }
 
 /// Feeds what [`len`](TreeSetOf::len) returns, and then each element in order. Allocates nothing.
-///
-/// ```
-/// let mut hasher = DefaultHasher::new();
-/// set.hash(&mut hasher);
-/// hasher.finish()
-/// ```
 impl<K: IndexKey + Hash, const LEN: usize> Hash for TreeSetOf<K, LEN> {
     ghost hash_input = { counted K.hash_input };
 

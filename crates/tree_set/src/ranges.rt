@@ -18,7 +18,12 @@ impl<K: IndexKey, const LEN: usize> TreeSetOf<K, LEN> {
     /// those of [`iter`](TreeSetOf::iter) do, and one comparison more. Allocates nothing.
     ///
     /// ```
-    /// assert!(rt; set.range((Bound::Excluded(&3), Bound::Unbounded)).next() == Some(&7));
+    /// pub fn first_within(numbers: &TreeSet<u64>, low: u64, high: u64) -> Option<&u64>
+    ///     ensures { option_copied result ≡
+    ///         first_of (filter (within nat_cmp (Included low) (Excluded high)) numbers.now) }
+    /// {
+    ///     numbers.range(low..high).next()
+    /// }
     /// ```
     pub fn range<R: RangeBounds<K>>(&self, bounds: R) -> RangeOf<'_, K, LEN>
         ensures { R.has_bounds bounds
@@ -37,8 +42,11 @@ impl<K: IndexKey, const LEN: usize> TreeSetOf<K, LEN> {
     /// [`remove_range_sync`](tree_index::TreeIndexOf::remove_range_sync) does. Allocates nothing.
     ///
     /// ```
-    /// set.remove_range((Bound::Included(&3), Bound::Excluded(&9)));
-    /// assert!(rt; format!(in alloc; "{set:?}")?.as_str() == "{1, 9}");
+    /// pub fn cut_out(numbers: &mut TreeSet<u64>, low: u64, high: u64)
+    ///     ensures { numbers.new ≡ cut nat_cmp numbers.old (Included low) (Excluded high) }
+    /// {
+    ///     numbers.remove_range(low..high);
+    /// }
     /// ```
     pub fn remove_range<R: RangeBounds<K>>(&mut self, bounds: R)
         ensures { R.has_bounds bounds

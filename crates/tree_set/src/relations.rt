@@ -18,7 +18,12 @@ impl<K: IndexKey, const LEN: usize> TreeSetOf<K, LEN> {
     /// other's elements, looks each up there instead. Allocates nothing.
     ///
     /// ```
-    /// let answers = (first.is_subset(second), first.is_superset(second));
+    /// pub fn is_part(numbers: &TreeSet<u64>, others: &TreeSet<u64>) -> (bool, bool)
+    ///     ensures subset { IsTrue result.0 ↔ IsSubset nat_cmp numbers.now others.now }
+    ///     ensures superset { IsTrue result.1 ↔ IsSubset nat_cmp others.now numbers.now }
+    /// {
+    ///     (numbers.is_subset(others), numbers.is_superset(others))
+    /// }
     /// ```
     pub fn is_subset(&self, other: &Self) -> bool
         ensures { IsTrue result ↔ IsSubset K.cmp self.now other.now }
@@ -33,7 +38,12 @@ impl<K: IndexKey, const LEN: usize> TreeSetOf<K, LEN> {
     /// [`is_subset`](TreeSetOf::is_subset) of the other does.
     ///
     /// ```
-    /// let answers = (first.is_subset(second), first.is_superset(second));
+    /// pub fn is_part(numbers: &TreeSet<u64>, others: &TreeSet<u64>) -> (bool, bool)
+    ///     ensures subset { IsTrue result.0 ↔ IsSubset nat_cmp numbers.now others.now }
+    ///     ensures superset { IsTrue result.1 ↔ IsSubset nat_cmp others.now numbers.now }
+    /// {
+    ///     (numbers.is_subset(others), numbers.is_superset(others))
+    /// }
     /// ```
     pub fn is_superset(&self, other: &Self) -> bool
         ensures { IsTrue result ↔ IsSubset K.cmp other.now self.now }
@@ -48,7 +58,11 @@ impl<K: IndexKey, const LEN: usize> TreeSetOf<K, LEN> {
     /// other's elements, looks each up there instead. Allocates nothing.
     ///
     /// ```
-    /// let are_disjoint = first.is_disjoint(second);
+    /// pub fn are_apart(numbers: &TreeSet<u64>, others: &TreeSet<u64>) -> bool
+    ///     ensures { IsTrue result ↔ AreDisjoint nat_cmp numbers.now others.now }
+    /// {
+    ///     numbers.is_disjoint(others)
+    /// }
     /// ```
     pub fn is_disjoint(&self, other: &Self) -> bool
         ensures { IsTrue result ↔ AreDisjoint K.cmp self.now other.now }

@@ -13,7 +13,11 @@ impl<K: IndexKey, const LEN: usize> TreeSetOf<K, LEN> {
     /// [`take`](TreeSetOf::take) does, and a descent to the element after it. Allocates nothing.
     ///
     /// ```
-    /// set.retain(|element| *element % 2 == 0);
+    /// pub fn keep_even(numbers: &mut TreeSet<u64>)
+    ///     ensures { numbers.new ≡ filter (λ number. number % 2 == 0) numbers.old }
+    /// {
+    ///     numbers.retain(|number| *number % 2 == 0);
+    /// }
     /// ```
     pub fn retain<F: FnMut(&K) -> bool + Drop>(&mut self, keep: F)
         requires { F.IsAlwaysCallable keep }

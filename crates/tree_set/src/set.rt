@@ -176,10 +176,12 @@ impl<K: IndexKey, const LEN: usize> TreeSetOf<K, LEN> {
         self.index.is_empty()
     }
 
-    /// Returns the index whose keys are the elements. Runs in constant time.
+    /// Lends the index whose keys are the elements. Runs in constant time.
+    ///
+    /// So what takes an index takes a set too, as `contains_each` of `tree_batches`.
     ///
     /// ```
-    /// contains_each(invited.as_index(), guests)
+    /// contains_each(numbers.as_index(), others).next()
     /// ```
     pub fn as_index(&self) -> &TreeIndexOf<K, (), LEN>
         ensures { keys_of result.now.pairs ≡ self.now }

@@ -14,9 +14,12 @@ impl<K: IndexKey, const LEN: usize> TreeSetOf<K, LEN> {
     /// if the element is the only one in its leaf. Allocates nothing.
     ///
     /// ```
-    /// let Some(stored) = set.take(&element) else {
-    ///     return false;
-    /// };
+    /// pub fn take_out(numbers: &mut TreeSet<u64>, number: u64) -> Option<u64>
+    ///     ensures taken { result ≡ element_at nat_cmp numbers.old number }
+    ///     ensures left { numbers.new ≡ without nat_cmp numbers.old number }
+    /// {
+    ///     numbers.take(&number)
+    /// }
     /// ```
     pub fn take(&mut self, element: &K) -> Option<K>
         ensures taken { result ≡ element_at K.cmp self.old element.now }
@@ -32,7 +35,11 @@ impl<K: IndexKey, const LEN: usize> TreeSetOf<K, LEN> {
     /// more if the element is the only one in its leaf. Allocates nothing.
     ///
     /// ```
-    /// let first = set.pop_first();
+    /// pub fn take_smallest(numbers: &mut TreeSet<u64>) -> Option<u64>
+    ///     ensures { TakesFirst (λ number. number) numbers.old result numbers.new }
+    /// {
+    ///     numbers.pop_first()
+    /// }
     /// ```
     pub fn pop_first(&mut self) -> Option<K>
         ensures { TakesFirst (λ element. element) self.old result self.new }
@@ -45,7 +52,11 @@ impl<K: IndexKey, const LEN: usize> TreeSetOf<K, LEN> {
     /// [`pop_first`](TreeSetOf::pop_first) does.
     ///
     /// ```
-    /// let last = set.pop_last();
+    /// pub fn take_largest(numbers: &mut TreeSet<u64>) -> Option<u64>
+    ///     ensures { TakesLast (λ number. number) numbers.old result numbers.new }
+    /// {
+    ///     numbers.pop_last()
+    /// }
     /// ```
     pub fn pop_last(&mut self) -> Option<K>
         ensures { TakesLast (λ element. element) self.old result self.new }

@@ -24,8 +24,8 @@ fn refill<const LEN: usize>(set: &mut TreeSetOf<u64, LEN>, (from, count, step): 
 // What is of two sets: whether the first is a subset, a superset and disjoint, and their order.
 type Told = (bool, bool, bool, Ordering);
 
-// Both empty, one empty, equal, one in the other, apart, overlapping; and a few elements beside many,
-// which are looked up, in them or not.
+// Both empty, one empty, equal, one in the other, apart, overlapping; and a few elements beside
+// many, which are looked up, in them or not.
 static ROWS: [(Run, Run, Told); 12] = [
     ((0, 0, 1), (0, 0, 1), (true, true, true, Ordering::Equal)),
     ((0, 0, 1), (5, 1, 1), (true, false, true, Ordering::Less)),

@@ -8,4 +8,4 @@ pub remove_range_sync-requires : goal.remove_range_sync-requires
 remove_range_sync-requires g c = search fits
 
 pub returns : goal.returns
-returns g c = λ has. rw (← c.self.view_is, ← c.start_bound.ensures.start_bound has, ← c.end_bound.ensures.end_bound has) (ap keys_of c.remove_range_sync.ensures ∙ keys-cut g.K.Ord.cmp c.self.inside.index.pairs _ _)
+returns g c = λ has. rw (← c.self.view_is, ← c.start_bound.ensures has, ← c.end_bound.ensures has) (ap keys_of c.remove_range_sync.ensures ∙ keys-cut g.K.Ord.cmp c.self.inside.index.pairs _ _)
