@@ -3,7 +3,6 @@ pub mod Apart
 pub mod Beginning
 pub mod Bounded
 pub mod Firsts
-pub mod Kept
 pub mod Keys
 pub mod Merged
 pub mod Moves

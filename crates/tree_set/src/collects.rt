@@ -70,13 +70,10 @@ impl<K: IndexKey, const LEN: usize> TreeSetOf<K, LEN> {
     /// move through. The caller must choose 7 or 15 for `LEN`.
     ///
     /// ```
-    /// pub fn of_ascending(
-    ///     alloc: Global,
-    ///     numbers: Vec<u64>,
-    /// ) -> Result<TreeSet<u64>, FromSortedError<u64>>
-    ///     ensures { BuildsSorted nat_cmp numbers.items result }
+    /// pub fn sorted(alloc: Global, list: Vec<u64>) -> Result<TreeSet<u64>, FromSortedError<u64>>
+    ///     ensures { BuildsSorted nat_cmp list.items result }
     /// {
-    ///     TreeSetOf::from_sorted(alloc, numbers)
+    ///     TreeSetOf::from_sorted(alloc, list)
     /// }
     /// ```
     pub fn from_sorted(alloc: Global, elements: Vec<K>) -> Result<Self, FromSortedError<K>>

@@ -14,7 +14,6 @@ mod prefixes;
 mod range;
 mod ranges;
 mod relations;
-mod retain;
 mod set;
 mod symmetric_difference;
 mod takes;

@@ -29,10 +29,7 @@ impl<const LEN: usize> TreeSetOf<Bytes, LEN> {
     ///     count = count.saturating_add(1);
     /// }
     /// ```
-    pub fn prefix<'t>(
-        &'t self,
-        bounds: &'t (Bound<Bytes>, Bound<Bytes>),
-    ) -> RangeOf<'t, Bytes, LEN>
+    pub fn prefix<'t>(&'t self, bounds: &'t (Bound<Bytes>, Bound<Bytes>)) -> RangeOf<'t, Bytes, LEN>
         ensures range { result ≡ filter (within (slice_cmp nat_cmp) bounds.now.0 bounds.now.1) self.now }
         ensures prefix { (prefix : List ℕ) → BoundPrefix AreBytes prefix bounds.now
             → result ≡ beginning_with prefix self.now }

@@ -1,5 +1,5 @@
 //! The calls of a set, as its documentation shows them.
-ghost use Rattle.std.specs.Prelude.{◌≡◌, ◌↔◌, ◌==◌, ◌%◌, IfOk, IsTrue, OnOk, filter, not};
+ghost use Rattle.std.specs.Prelude.{◌≡◌, ◌↔◌, IsTrue, OnOk, filter};
 ghost use Rattle.std.specs.Map.Iter.{TakesFirst, TakesLast};
 ghost use Rattle.std.specs.Option.{option_copied};
 ghost use Rattle.std.specs.Ordering.{nat_cmp};
@@ -38,13 +38,6 @@ pub fn take_largest(numbers: &mut TreeSet<u64>) -> Option<u64>
     numbers.pop_last()
 }
 
-/// Keeps the even numbers.
-pub fn keep_even(numbers: &mut TreeSet<u64>)
-    ensures { numbers.new ≡ filter (λ number. number % 2 == 0) numbers.old }
-{
-    numbers.retain(|number| *number % 2 == 0);
-}
-
 /// Keeps the numbers below one of them, and from another one on.
 pub fn cut_out(numbers: &mut TreeSet<u64>, low: u64, high: u64)
     ensures { numbers.new ≡ cut nat_cmp numbers.old (Included low) (Excluded high) }
@@ -72,14 +65,11 @@ pub fn add_each(numbers: &mut TreeSet<u64>, more: Vec<u64>) -> Result<(), u64> {
     numbers.try_extend(more)
 }
 
-/// Returns a set of numbers that ascend.
-pub fn of_ascending(
-    alloc: Global,
-    numbers: Vec<u64>,
-) -> Result<TreeSet<u64>, FromSortedError<u64>>
-    ensures { BuildsSorted nat_cmp numbers.items result }
+/// Returns a set of the numbers of a list that ascends.
+pub fn sorted(alloc: Global, list: Vec<u64>) -> Result<TreeSet<u64>, FromSortedError<u64>>
+    ensures { BuildsSorted nat_cmp list.items result }
 {
-    TreeSetOf::from_sorted(alloc, numbers)
+    TreeSetOf::from_sorted(alloc, list)
 }
 
 /// Returns the nearest numbers on both sides, or the number itself.

@@ -25,8 +25,8 @@ pub use baskets::{are_counted, cost_of, count_of_all, count_of_first, first_in, 
 pub use book::{ask_from, best_ask, best_bid, cancel, second_ask};
 pub use events::{Stamp, last_before};
 pub use examples::{
-    add_all, add_each, are_apart, cut_out, first_within, gap_at, has_first, is_part, keep_even,
-    nearest, of_ascending, take_largest, take_out, take_smallest,
+    add_all, add_each, are_apart, cut_out, first_within, gap_at, has_first, is_part, nearest,
+    sorted, take_largest, take_out, take_smallest,
 };
 pub use fills::{fill, fill_bid, remove_filled, take_back};
 pub use guests::{invitation, invite, next_to_ask};

@@ -77,19 +77,6 @@ fn takes_all<const LEN: usize>(set: &mut TreeSetOf<u64, LEN>, elements: &[u64]) 
     set.is_empty()
 }
 
-// Whether the multiples of four stay, in a test that is asked in ascending order.
-fn retains<const LEN: usize>(set: &mut TreeSetOf<u64, LEN>, elements: &[u64]) -> bool {
-    let mut asked = 0u64;
-    let mut ascends = true;
-    set.retain(|element| {
-        ascends = ascends && *element == asked;
-        asked = asked.wrapping_add(2);
-        *element % 4 == 0
-    });
-    let kept = elements.len().wrapping_add(1) / 2;
-    ascends && set.len() == kept && set.iter().all(|element| *element % 4 == 0)
-}
-
 // Whether both ends give each element by value.
 fn gives_by_value<const LEN: usize>(set: TreeSetOf<u64, LEN>, elements: &[u64]) -> bool {
     let mut given = set.into_iter();
@@ -121,8 +108,6 @@ fn removes_rows<const LEN: usize>(
         assert!(rt; pops_all(set, elements.as_slice()));
         refill(set, *fill)?;
         assert!(rt; takes_all(set, elements.as_slice()));
-        refill(set, *fill)?;
-        assert!(rt; retains(set, elements.as_slice()));
         refill(set, *fill)?;
         assert!(rt; gives_by_value(set.clone()?, elements.as_slice()));
     }
