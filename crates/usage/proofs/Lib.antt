@@ -1,4 +1,4 @@
 pub mod Prices
 pub mod Registered
 pub mod Sums
-pub mod Events
+pub mod Stamps

@@ -1,6 +1,6 @@
 use Rattle.std.proofs.Common.{ap, ◌∙◌, List}
 use Rattle.tree_leaf.specs.Walks.{last_of}
-use Rattle.usage.proofs.Events.{are_earlier, last_given}
+use Rattle.usage.proofs.Stamps.{are_earlier, last_given}
 use Rattle.usage.specs.declared.events.Stamp.{Stamp}
 use Rattle.usage.proofs.events.last_before.Goals as goal
 

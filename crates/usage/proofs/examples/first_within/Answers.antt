@@ -1,6 +1,6 @@
 use Rattle.std.proofs.Common.{ℕ, List, ap, ◌∙◌}
 use Rattle.tree_leaf.specs.Walks.{first_of}
-use Rattle.usage.proofs.Events.{first_given}
+use Rattle.usage.proofs.Stamps.{first_given}
 use Rattle.usage.proofs.examples.first_within.Goals as goal
 
 pub returns : goal.returns
