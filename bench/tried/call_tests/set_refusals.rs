@@ -1,5 +1,6 @@
 //! Calls of a set of texts in which an allocation fails.
 use std::alloc::{AllocError, Global};
+use std::iter::Extend;
 use std::process::Abort;
 use test_support::refusals::{begins, ends, is_granted_again, succeeds};
 use tree_set::{SmallTreeSet, TreeSetOf};
@@ -157,5 +158,100 @@ fn copies_steps(rt: &impl Abort, alloc: Global, call: &str) -> Result<(), AllocE
 fn copies_again(rt: HostRuntime) {
     for call in &COPIES {
         assert!(rt; succeeds(rt.alloc(), || copies_steps(&rt, rt.alloc(), *call)));
+    }
+}
+
+// The calls that store several elements.
+static BUILDS: [&str; 4] = [
+    "TreeSet::try_extend",
+    "TreeSet::extend",
+    "TreeSet::from_sorted",
+    "TreeSet::collect",
+];
+
+// How many elements these calls store: a full leaf, two leaves, and three levels.
+static LENGTHS: [u64; 3] = [7, 15, 60];
+
+// Returns clones of texts.
+fn clones(alloc: Global, texts: &[String]) -> Result<Vec<String>, AllocError> {
+    let mut clones = Vec::with_capacity(alloc, texts.len())?;
+    for text in texts {
+        clones.push(text.clone()?)?;
+    }
+    Ok(clones)
+}
+
+// Extends an empty set by the call of this name. Returns `None` if an allocation fails: the texts
+// before the one that it was for are stored then, and `try_extend` gives that one back.
+fn extended(
+    rt: &impl Abort,
+    alloc: Global,
+    elements: Vec<String>,
+    texts: &[String],
+    call: &str,
+) -> Option<SmallTreeSet<String>> {
+    let mut set: SmallTreeSet<String> = TreeSetOf::new(alloc);
+    let refused = if call == "TreeSet::extend" {
+        set.extend(elements).is_err()
+    } else {
+        match set.try_extend(elements) {
+            Ok(()) => false,
+            Err(back) => {
+                assert!(rt; texts.get(set.len()) == Some(&back));
+                true
+            }
+        }
+    };
+    let stored = texts.get(..set.len()).unwrap_or(&[]);
+    assert!(rt; has(&set, stored) && (refused || stored.len() == texts.len()));
+    if refused { None } else { Some(set) }
+}
+
+// Makes a set of these texts by the call of this name. Returns `false` if an allocation fails.
+fn is_built(
+    rt: &impl Abort,
+    alloc: Global,
+    texts: &[String],
+    call: &str,
+) -> Result<bool, AllocError> {
+    let elements = clones(alloc, texts)?;
+    begins(alloc, call);
+    let built: Option<SmallTreeSet<String>> = if call == "TreeSet::from_sorted" {
+        TreeSetOf::from_sorted(alloc, elements).ok()
+    } else if call == "TreeSet::collect" {
+        elements.into_iter().collect(alloc).ok()
+    } else {
+        extended(rt, alloc, elements, texts, call)
+    };
+    ends(alloc);
+    let Some(set) = built else {
+        return Ok(false);
+    };
+    assert!(rt; has(&set, texts));
+    Ok(true)
+}
+
+// Makes a set at once or the second time.
+fn builds_steps(
+    rt: &impl Abort,
+    alloc: Global,
+    count: u64,
+    call: &str,
+) -> Result<(), AllocError> {
+    let texts = ascending(alloc, count)?;
+    if is_built(rt, alloc, &texts, call)? {
+        return Ok(());
+    }
+    let is_granted = is_built(rt, alloc, &texts, call)?;
+    assert!(rt; is_granted_again(alloc, call, is_granted)?);
+    Ok(())
+}
+
+#[test]
+fn builds_again(rt: HostRuntime) {
+    for call in &BUILDS {
+        for count in &LENGTHS {
+            assert!(rt; succeeds(rt.alloc(), || builds_steps(&rt, rt.alloc(), *count, *call)));
+        }
     }
 }

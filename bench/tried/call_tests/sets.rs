@@ -1,3 +1,6 @@
-//! Sets of seven elements a leaf, and two sets side by side.
+//! Sets of several sizes, and two sets side by side.
+mod calls;
+mod collects;
+mod relations;
 mod small;
 mod two_sets;

@@ -1,6 +1,10 @@
+pub mod Added
 pub mod Apart
 pub mod Beginning
+pub mod Bounded
 pub mod Firsts
 pub mod Keys
-pub mod Moves
 pub mod Merged
+pub mod Moves
+pub mod Parts
+pub mod Related

@@ -54,7 +54,7 @@ module _ {K : Type 0} {cmp : K → K → Ordering} (o : IsTotalOrder cmp) where
   lacks x (y ∷ ys) larger = rw (greater_from_less o x y larger.0) (lacks x ys larger.1)
 
   -- whether a list has an element is the same for equal elements
-  same_has : (x k : K) → cmp x k ≡ Equal → (ys : List K) → has cmp ys x ≡ has cmp ys k
+  pub same_has : (x k : K) → cmp x k ≡ Equal → (ys : List K) → has cmp ys x ≡ has cmp ys k
   same_has x k same [] = refl
   same_has x k same (y ∷ ys) = rw (alike_right o x k y same, same_has x k same ys) refl
 

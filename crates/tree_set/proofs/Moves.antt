@@ -8,7 +8,7 @@ use Rattle.tree_model.proofs.Ascending.{IsAscending-filter}
 use Rattle.tree_node.proofs.Cuts.{ascending_behind, ascending_front}
 use Rattle.tree_cursors.specs.Ranged.{IsFresh, pairs_within}
 use Rattle.tree_cursors.proofs.Yields.{fresh_begun, rest_fresh, takes_first}
-use Rattle.tree_set.specs.Elements.{HasBegunBoth, left_of}
+use Rattle.tree_set.specs.Ranged.{HasBegunBoth, left_of}
 use Rattle.tree_set.specs.Sets.{IsAscending, keys_of}
 use Rattle.tree_set.proofs.Keys.{keys_ascend}
 use Rattle.tree_model.specs.Pairs as pairs

@@ -1,3 +1,4 @@
-pub mod Elements
+pub mod Collects
 pub mod Merges
+pub mod Ranged
 pub mod Sets

@@ -1,5 +1,5 @@
 -- The elements of either of two ascending lists, of both, of the first alone, and of one alone.
-use Rattle.std.specs.Prelude.{◌≡◌, true, not, List, filter}
+use Rattle.std.specs.Prelude.{◌≡◌, true, false, not, List, filter}
 use Rattle.std.specs.Set.{sorted_merge}
 use Rattle.std.specs.declared.cmp.Ordering.{Ordering}
 use Rattle.tree_set.specs.Sets.{IsAscending, has}
@@ -20,6 +20,13 @@ module _ {K : Type 0} (cmp : K → K → Ordering) (xs ys : List K) where
   -- the elements of either list that the other lacks
   abbrev pub symmetric_difference : List K
   symmetric_difference = sorted_merge cmp true (filter (λ x. not (has cmp ys x)) xs) (filter (λ y. not (has cmp xs y)) ys)
+
+  -- each element of the first list is in the second, and none is
+  abbrev pub IsSubset : Type 0
+  IsSubset = (k : K) → has cmp xs k ≡ true → has cmp ys k ≡ true
+
+  abbrev pub AreDisjoint : Type 0
+  AreDisjoint = (k : K) → has cmp xs k ≡ true → has cmp ys k ≡ false
 
   pub record AreAscending : Type 0 where
     pub first : IsAscending cmp xs

@@ -1,15 +1,21 @@
 -- A set as a list of elements, strictly ascending. `cmp` is the order of the elements.
 use Rattle.std.specs.Prelude.{◌≡◌, ℕ, Bool, true, false, not, List, [], ◌∷◌, ◌++◌, filter, find, map, nat_eq, Option, Result, Ok, Err, ⊤}
 use Rattle.std.specs.List.{AllByRecursion, list_any, starts_with}
+use Rattle.std.specs.Option.{option_or}
 use Rattle.std.specs.declared.cmp.Ordering.{Ordering}
 use Rattle.std.specs.declared.cmp.Ordering.TheVariants.{Less}
 use Rattle.std.specs.declared.ops.Bound.{Bound}
 use Rattle.std.specs.Ordering.{is_lt, is_eq, is_gt}
+use Rattle.tree_leaf.specs.Walks.{first_of, last_of}
 use Rattle.tree_model.specs.Pairs.{within}
 
 -- the keys of pairs
 abbrev pub keys_of : {K V : Type 0} → List (K × V) → List K
 keys_of pairs = map (λ pair. pair.0) pairs
+
+-- each element with the value `()`
+abbrev pub in_pairs : {K : Type 0} → List K → List (K × Unit {0})
+in_pairs l = map (λ x. (x, tt)) l
 
 module _ {K : Type 0} (cmp : K → K → Ordering) where
   -- each element is smaller than every element after it
@@ -31,6 +37,13 @@ module _ {K : Type 0} (cmp : K → K → Ordering) where
   -- whether there is one
   abbrev pub has : List K → K → Bool
   has l k = list_any (λ x. is_eq (cmp x k)) l
+
+  -- the element that equals k or, if there is none, the nearest one on one side
+  abbrev pub at_or_below : List K → K → Option K
+  at_or_below l k = option_or (element_at l k) (last_of (below l k))
+
+  abbrev pub at_or_above : List K → K → Option K
+  at_or_above l k = option_or (element_at l k) (first_of (above l k))
 
   -- l with k among its elements
   abbrev pub put : List K → K → List K

@@ -1,19 +1,18 @@
 //! The elements of a set whose first one is looked at before it is taken.
 ghost use Rattle.std.specs.Prelude.{◌≡◌, [], ◌∷◌, MatchOption, drop};
-ghost use Rattle.tree_set.specs.Sets.{IsAscending};
 
-use crate::elements::ElementsOver;
 use std::marker::Model;
 use tree_cursors::range::Ranged;
 use tree_leaf::Walked;
 use tree_leaf::leaf::LeafOf;
 use tree_node::node::ArenasOf;
+use tree_views::keys::{KeysOf, KeysOver};
 
 // The elements that are left, the first of which was already taken from its cursor.
 #[derive(Drop)]
 pub(crate) struct Ahead<'t, K: Ord, A: Ranged<K, (), L>, L: Walked> {
     first: Option<&'t K>,
-    others: ElementsOver<'t, K, A, L>,
+    others: KeysOver<'t, K, (), A, L>,
 }
 
 // The elements that are left, with up to `LEN` elements a leaf.
@@ -43,14 +42,11 @@ impl<'t, K: Ord + Drop + 't, const LEN: usize> Ahead<
     LeafOf<K, (), LEN>,
 > {
     // Takes the first element, and keeps it.
-    pub(crate) fn new(
-        elements: ElementsOver<'t, K, ArenasOf<K, (), LEN>, LeafOf<K, (), LEN>>,
-    ) -> Self
-        ensures same { result ≡ elements.entry }
-        ensures ascending { IsAscending K.cmp result }
+    pub(crate) fn new(elements: KeysOf<'t, K, (), LEN>) -> Self
+        ensures { result ≡ elements.entry }
     {
         let mut others = elements;
-        let first = others.take_first();
+        let first = others.next();
         Ahead { first, others }
     }
 
@@ -67,6 +63,6 @@ impl<'t, K: Ord + Drop + 't, const LEN: usize> Ahead<
     pub(crate) fn advance(&mut self)
         ensures { self.new ≡ drop 1 self.old }
     {
-        self.first = self.others.take_first();
+        self.first = self.others.next();
     }
 }

@@ -2,19 +2,28 @@
 #![tactic(auto)]
 
 mod ahead;
+mod collects;
 mod copies;
 mod difference;
-mod elements;
 mod equality;
 mod intersection;
+mod into_iter;
+mod nearest;
+mod order;
 mod prefixes;
+mod range;
+mod ranges;
+mod relations;
 mod set;
 mod symmetric_difference;
+mod takes;
 mod union;
 
+pub use collects::FromSortedError;
 pub use difference::{Difference, DifferenceOver};
-pub use elements::{Elements, ElementsOver};
 pub use intersection::{Intersection, IntersectionOver};
-pub use set::{SmallTreeSet, TreeSet, TreeSetOf};
+pub use into_iter::{IntoIter, IntoIterOf};
+pub use range::{Range, RangeOf, RangeOver};
+pub use set::{Iter, IterOf, SmallTreeSet, TreeSet, TreeSetOf};
 pub use symmetric_difference::{SymmetricDifference, SymmetricDifferenceOver};
 pub use union::{Union, UnionOver};

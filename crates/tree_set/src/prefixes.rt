@@ -8,7 +8,7 @@ ghost use Rattle.tree_set.specs.Sets.{beginning_with, not_beginning_with};
 ghost use Rattle.tree_texts.specs.Head.{AreBytes};
 ghost use Rattle.tree_texts.specs.Prefix.{BoundPrefix};
 
-use crate::elements::{Elements, ElementsOver};
+use crate::range::{RangeOf, RangeOver};
 use crate::set::TreeSetOf;
 use std::alloc::{AllocError, Global};
 use std::ops::Bound;
@@ -29,15 +29,12 @@ impl<const LEN: usize> TreeSetOf<Bytes, LEN> {
     ///     count = count.saturating_add(1);
     /// }
     /// ```
-    pub fn prefix<'t>(
-        &'t self,
-        bounds: &'t (Bound<Bytes>, Bound<Bytes>),
-    ) -> Elements<'t, Bytes, LEN>
+    pub fn prefix<'t>(&'t self, bounds: &'t (Bound<Bytes>, Bound<Bytes>)) -> RangeOf<'t, Bytes, LEN>
         ensures range { result ≡ filter (within (slice_cmp nat_cmp) bounds.now.0 bounds.now.1) self.now }
         ensures prefix { (prefix : List ℕ) → BoundPrefix AreBytes prefix bounds.now
             → result ≡ beginning_with prefix self.now }
     {
-        ElementsOver::new(prefix_range(&self.index, bounds))
+        RangeOver::new(prefix_range(&self.index, bounds))
     }
 
     /// Removes every element that begins with a prefix, and returns whether there was one.
@@ -72,12 +69,12 @@ impl<const LEN: usize> TreeSetOf<Text, LEN> {
     pub fn text_prefix<'t>(
         &'t self,
         bounds: &'t (Bound<Text>, Bound<Text>),
-    ) -> Elements<'t, Text, LEN>
+    ) -> RangeOf<'t, Text, LEN>
         ensures range { result ≡ filter (within (slice_cmp nat_cmp) bounds.now.0 bounds.now.1) self.now }
         ensures prefix { (prefix : List ℕ) → BoundPrefix IsUtf8 prefix bounds.now
             → result ≡ beginning_with prefix self.now }
     {
-        ElementsOver::new(text_prefix_range(&self.index, bounds))
+        RangeOver::new(text_prefix_range(&self.index, bounds))
     }
 
     /// Removes every element that begins with a prefix, and returns whether there was one.

@@ -1,29 +1,31 @@
 //! The set.
-ghost use Rattle.std.specs.Prelude.{◌≡◌, ◌↔◌, IsTrue, ◌^◌, ◌-◌, ◌&&◌, ◌||◌, min, not, filter, [], length};
+ghost use Rattle.std.specs.Prelude.{◌≡◌, ◌↔◌, IsTrue, ◌^◌, ◌-◌, ◌&&◌, ◌||◌, min, not, [], length};
 ghost use Rattle.std.specs.Option.{option_copied};
 ghost use Rattle.tree_array.specs.Length.{IsLen};
-ghost use Rattle.tree_leaf.specs.Walks.{first_of, last_of};
-ghost use Rattle.tree_model.specs.Pairs.{high_of, low_of, within};
 ghost use Rattle.tree_set.specs.Merges.{difference, intersection, symmetric_difference, union};
-ghost use Rattle.tree_set.specs.Sets.{Inserts, IsAscending, cut, element_at, has, without};
+ghost use Rattle.tree_set.specs.Sets.{Inserts, IsAscending, element_at, has, keys_of, without};
 
 use crate::ahead::{Ahead, AheadOf};
 use crate::difference::{Difference, DifferenceOver};
-use crate::elements::{Elements, ElementsOver};
 use crate::intersection::{Intersection, IntersectionOver};
 use crate::symmetric_difference::{SymmetricDifference, SymmetricDifferenceOver};
 use crate::union::{Union, UnionOver};
 use std::alloc::Global;
 use std::fmt;
 use std::marker::Model;
-use std::ops::Bound;
-use tree_index::{IndexKey, InsertError, TreeIndexOf};
+use tree_index::{IndexKey, InsertError, KeysOf, TreeIndexOf};
 
 /// An ordered set with up to fifteen elements a leaf. See [`TreeSetOf`].
 pub type TreeSet<K> = TreeSetOf<K, 15>;
 
 /// An ordered set with up to seven elements a leaf. See [`TreeSetOf`].
 pub type SmallTreeSet<K> = TreeSetOf<K, 7>;
+
+/// The elements of a set, from both ends, with up to `LEN` elements a leaf.
+pub type IterOf<'t, K, const LEN: usize> = KeysOf<'t, K, (), LEN>;
+
+/// The elements of a set, from both ends, with up to fifteen elements a leaf.
+pub type Iter<'t, K> = IterOf<'t, K, 15>;
 
 /// An ordered set: the keys of an index whose values are `()`. `LEN` is 7 or 15.
 ///
@@ -107,23 +109,6 @@ impl<K: IndexKey, const LEN: usize> TreeSetOf<K, LEN> {
         self.index.remove_sync(element)
     }
 
-    /// Removes every element within both bounds. Bounds that contain no element, reversed ones
-    /// among them, remove nothing.
-    ///
-    /// Drops the parts of the tree between the bounds whole, and makes comparisons only at the two
-    /// ends of the range, as [`remove_range_sync`](TreeIndexOf::remove_range_sync) does. Allocates
-    /// nothing.
-    ///
-    /// ```
-    /// set.remove_range((Bound::Included(&3), Bound::Excluded(&9)));
-    /// assert!(rt; format!(in alloc; "{set:?}")?.as_str() == "{1, 9}");
-    /// ```
-    pub fn remove_range(&mut self, bounds: (Bound<&K>, Bound<&K>))
-        ensures { self.new ≡ cut K.cmp self.old (low_of bounds.entry) (high_of bounds.entry) }
-    {
-        self.index.remove_range_sync(bounds);
-    }
-
     /// Removes all elements. Drops each once. Allocates nothing, and keeps the memory of the tree
     /// for later inserts.
     ///
@@ -191,6 +176,19 @@ impl<K: IndexKey, const LEN: usize> TreeSetOf<K, LEN> {
         self.index.is_empty()
     }
 
+    /// Lends the index whose keys are the elements. Runs in constant time.
+    ///
+    /// So what takes an index takes a set too, as `contains_each` of `tree_batches`.
+    ///
+    /// ```
+    /// contains_each(numbers.as_index(), others).next()
+    /// ```
+    pub fn as_index(&self) -> &TreeIndexOf<K, (), LEN>
+        ensures { keys_of result.now.pairs ≡ self.now }
+    {
+        &self.index
+    }
+
     /// Returns the elements in ascending order, from both ends. Runs in constant time.
     ///
     /// The first move of an end descends once. Each move after it reads the next element of its
@@ -205,24 +203,10 @@ impl<K: IndexKey, const LEN: usize> TreeSetOf<K, LEN> {
     ///     next = next.wrapping_add(1);
     /// }
     /// ```
-    pub fn iter(&self) -> Elements<'_, K, LEN>
+    pub fn iter(&self) -> IterOf<'_, K, LEN>
         ensures { result ≡ self.now }
     {
-        ElementsOver::new(self.index.range((Bound::Unbounded, Bound::Unbounded)))
-    }
-
-    /// Returns the elements within both bounds in ascending order, from both ends. Bounds that
-    /// contain no element, reversed ones among them, give none. Runs in constant time.
-    ///
-    /// The moves cost what those of [`iter`](TreeSetOf::iter) do, and one comparison more.
-    ///
-    /// ```
-    /// assert!(rt; set.range((Bound::Excluded(&3), Bound::Unbounded)).next() == Some(&7));
-    /// ```
-    pub fn range<'t>(&'t self, bounds: (Bound<&'t K>, Bound<&'t K>)) -> Elements<'t, K, LEN>
-        ensures { result ≡ filter (within K.cmp (low_of bounds.entry) (high_of bounds.entry)) self.now }
-    {
-        ElementsOver::new(self.index.range(bounds))
+        self.index.keys()
     }
 
     /// Returns the elements that this set or the other has, in ascending order. Of two equal ones
@@ -298,51 +282,51 @@ impl<K: IndexKey, const LEN: usize> TreeSetOf<K, LEN> {
         SymmetricDifferenceOver { first, second }
     }
 
+    // Returns the index whose keys are the elements, by value.
+    pub(crate) fn into_index(self) -> TreeIndexOf<K, (), LEN>
+        ensures { keys_of result.pairs ≡ self }
+    {
+        let TreeSetOf { index } = self;
+        index
+    }
+
+    // Does nothing. A law: the elements ascend.
+    #[inline(always)]
+    pub(crate) fn elements_ascend(&self)
+        ensures { IsAscending K.cmp self.now }
+    {
+        // Whatever a cursor shows, its pairs ascend.
+        let _ = self.index.iter().get();
+    }
+
+    // Returns the elements of this set, with the first one taken.
+    fn ahead(&self) -> AheadOf<'_, K, LEN>
+        ensures same { result ≡ self.now }
+        ensures ascending { IsAscending K.cmp self.now }
+    {
+        self.elements_ascend();
+        Ahead::new(self.iter())
+    }
+
     // Returns the elements of this set and of another, each with its first one taken.
     fn both_ahead<'t>(&'t self, other: &'t Self) -> (AheadOf<'t, K, LEN>, AheadOf<'t, K, LEN>)
         ensures first { (result.0 ≡ self.now) × IsAscending K.cmp self.now }
         ensures second { (result.1 ≡ other.now) × IsAscending K.cmp other.now }
     {
-        (Ahead::new(self.iter()), Ahead::new(other.iter()))
-    }
-
-    /// Returns the smallest element, or `None` if the set is empty. Descends once, and makes no
-    /// comparison.
-    ///
-    /// ```
-    /// (set.first().copied(), set.last().copied())
-    /// ```
-    pub fn first(&self) -> Option<&K>
-        ensures { option_copied result ≡ first_of self.now }
-    {
-        let (element, _) = self.index.first()?;
-        Some(element)
-    }
-
-    /// Returns the largest element, or `None` if the set is empty. Descends once, and makes no
-    /// comparison.
-    ///
-    /// ```
-    /// (set.first().copied(), set.last().copied())
-    /// ```
-    pub fn last(&self) -> Option<&K>
-        ensures { option_copied result ≡ last_of self.now }
-    {
-        let (element, _) = self.index.last()?;
-        Some(element)
+        (self.ahead(), other.ahead())
     }
 }
 
 impl<'t, K: IndexKey, const LEN: usize> IntoIterator for &'t TreeSetOf<K, LEN> {
     type Item = &'t K;
 
-    type IntoIter = Elements<'t, K, LEN>;
+    type IntoIter = IterOf<'t, K, LEN>;
 
     ghost use Rattle.std.specs.Prelude.{◌≡◌};
 
     ghost into_iter_gives = { λ set elements. elements ≡ set.now };
 
-    fn into_iter(self) -> Elements<'t, K, LEN> {
+    fn into_iter(self) -> IterOf<'t, K, LEN> {
         self.iter()
     }
 }

@@ -1,3 +1,4 @@
 pub mod Prices
 pub mod Registered
 pub mod Sums
+pub mod Stamps

@@ -8,6 +8,8 @@ ghost use Rattle.tree_model.specs.Pairs.{pair_at};
 
 mod baskets;
 mod book;
+mod events;
+mod examples;
 mod fills;
 mod guests;
 mod holders;
@@ -21,6 +23,11 @@ mod walks;
 
 pub use baskets::{are_counted, cost_of, count_of_all, count_of_first, first_in, has_all};
 pub use book::{ask_from, best_ask, best_bid, cancel, second_ask};
+pub use events::{Stamp, last_before};
+pub use examples::{
+    add_all, add_each, are_apart, cut_out, first_within, gap_at, has_first, is_part, nearest,
+    sorted, take_largest, take_out, take_smallest,
+};
 pub use fills::{fill, fill_bid, remove_filled, take_back};
 pub use guests::{invitation, invite, next_to_ask};
 pub use holders::{if_wanted, parts_of_market};

@@ -1,7 +1,0 @@
-use Rattle.tree_set.proofs.elements.ElementsOverArenasOfUnitLeafOfUnitIterator.size_hint.Goals as goal
-
-pub returns-clause-lower : goal.returns-clause-lower
-returns-clause-lower g c = c.size_hint.ensures.lower
-
-pub returns-clause-upper : goal.returns-clause-upper
-returns-clause-upper g c = c.size_hint.ensures.upper
