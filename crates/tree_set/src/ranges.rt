@@ -14,8 +14,9 @@ impl<K: IndexKey, const LEN: usize> TreeSetOf<K, LEN> {
     /// Returns the elements within a range in ascending order, from both ends. A range that
     /// contains no element, a reversed one among them, gives none.
     ///
-    /// Makes the comparisons of [`locate`](TreeSetOf::locate) for each bound. The moves cost what
-    /// those of [`iter`](TreeSetOf::iter) do, and one comparison more. Allocates nothing.
+    /// Costs what [`locate`](TreeSetOf::locate) does for each bound, or twice that for one beyond
+    /// all elements. The moves cost what those of [`iter`](TreeSetOf::iter) do, and one comparison
+    /// more. Allocates nothing.
     ///
     /// ```
     /// pub fn first_within(numbers: &TreeSet<u64>, low: u64, high: u64) -> Option<&u64>
