@@ -5,9 +5,9 @@
 //! call. Its contract is over what the handle holds, which is an index of numbers, one of byte
 //! strings, or none (`specs/Held.antt`).
 //!
-//! The first parameter of an export is `alloc`, the heap of the index and of the closed handle that
-//! is there while a call has taken the index out. C passes nothing for it, since a `Global` takes no
-//! bytes.
+//! The first parameter of an export is `alloc`, the heap of the index and of the closed handle
+//! that is there while a call has taken the index out. C passes nothing for it, since a `Global`
+//! takes no bytes.
 //!
 //! Numbers cross, handles, and slices of bytes, pairs and entries. An index itself can't, since it
 //! has a number of 128 bits, enums and vectors, and C gets none of these in the signature of an
