@@ -147,10 +147,25 @@ static void join(pthread_t *threads, reader *readers) {
   }
 }
 
+/* The last thread frees the index of the others, to which no other handle leads. What orders that is in the library: where
+ * ThreadSanitizer doesn't see the library's own accesses, it takes this for a race. */
+static void last_of_threads(pthread_t *threads, reader *readers) {
+#if !defined(__SANITIZE_THREAD__) || defined(SANITIZED_LIBRARY)
+  tree_index_handle copy = TREE_INDEX_CLOSED, copy_of_words = TREE_INDEX_CLOSED;
+  WANT(tree_index_copy(&numbers, &copy) == TREE_INDEX_YES && tree_index_freeze(&copy) == TREE_INDEX_YES);
+  WANT(tree_index_copy(&words, &copy_of_words) == TREE_INDEX_YES && tree_index_freeze(&copy_of_words) == TREE_INDEX_YES);
+  start(threads, readers, &copy, &copy_of_words);
+  tree_index_free(&copy);
+  tree_index_free(&copy_of_words);
+  join(threads, readers);
+#else
+  (void)threads, (void)readers;
+#endif
+}
+
 int main(void) {
   static reader readers[THREADS];
   pthread_t threads[THREADS];
-  tree_index_handle copy = TREE_INDEX_CLOSED, copy_of_words = TREE_INDEX_CLOSED;
   WANT(tree_index_new(&numbers) == TREE_INDEX_YES && tree_index_bytes_new(&words) == TREE_INDEX_YES);
   for (uint64_t key = 0; key < KEYS; key += 2) {
     uint8_t room[LENGTH];
@@ -162,13 +177,7 @@ int main(void) {
   refuses_writes();
   start(threads, readers, &numbers, &words);
   join(threads, readers);
-  /* The last thread frees the index of the others, to which no other handle leads. */
-  WANT(tree_index_copy(&numbers, &copy) == TREE_INDEX_YES && tree_index_freeze(&copy) == TREE_INDEX_YES);
-  WANT(tree_index_copy(&words, &copy_of_words) == TREE_INDEX_YES && tree_index_freeze(&copy_of_words) == TREE_INDEX_YES);
-  start(threads, readers, &copy, &copy_of_words);
-  tree_index_free(&copy);
-  tree_index_free(&copy_of_words);
-  join(threads, readers);
+  last_of_threads(threads, readers);
   thaw(&numbers);
   thaw(&words);
   printf("C: %d threads that read one frozen index of %d pairs, each of its answers as it should be\n", THREADS, KEYS / 2);
