@@ -130,10 +130,42 @@ static void thaw(tree_index_handle *handle) {
   WANT(tree_index_freeze(handle) == TREE_INDEX_MISFIT && tree_index_thaw(handle) == TREE_INDEX_MISFIT);
 }
 
+/* Starts the threads, each with handles of its own. */
+static void start(pthread_t *threads, reader *readers, tree_index_handle *of_numbers, tree_index_handle *of_words) {
+  for (int at = 0; at < THREADS; at++) {
+    readers[at] = (reader){TREE_INDEX_CLOSED, TREE_INDEX_CLOSED, (uint64_t)at, 0};
+    WANT(tree_index_share(of_numbers, &readers[at].numbers) == TREE_INDEX_YES);
+    WANT(tree_index_share(of_words, &readers[at].words) == TREE_INDEX_YES);
+    WANT(pthread_create(&threads[at], NULL, read_all, &readers[at]) == 0);
+  }
+}
+
+static void join(pthread_t *threads, reader *readers) {
+  for (int at = 0; at < THREADS; at++) {
+    pthread_join(threads[at], NULL);
+    WANT(readers[at].found > 0);
+  }
+}
+
+/* The last thread frees the index of the others, to which no other handle leads. What orders that is in the library: where
+ * ThreadSanitizer doesn't see the library's own accesses, it takes this for a race. */
+static void last_of_threads(pthread_t *threads, reader *readers) {
+#if !defined(__SANITIZE_THREAD__) || defined(SANITIZED_LIBRARY)
+  tree_index_handle copy = TREE_INDEX_CLOSED, copy_of_words = TREE_INDEX_CLOSED;
+  WANT(tree_index_copy(&numbers, &copy) == TREE_INDEX_YES && tree_index_freeze(&copy) == TREE_INDEX_YES);
+  WANT(tree_index_copy(&words, &copy_of_words) == TREE_INDEX_YES && tree_index_freeze(&copy_of_words) == TREE_INDEX_YES);
+  start(threads, readers, &copy, &copy_of_words);
+  tree_index_free(&copy);
+  tree_index_free(&copy_of_words);
+  join(threads, readers);
+#else
+  (void)threads, (void)readers;
+#endif
+}
+
 int main(void) {
   static reader readers[THREADS];
   pthread_t threads[THREADS];
-  uint64_t found = 0;
   WANT(tree_index_new(&numbers) == TREE_INDEX_YES && tree_index_bytes_new(&words) == TREE_INDEX_YES);
   for (uint64_t key = 0; key < KEYS; key += 2) {
     uint8_t room[LENGTH];
@@ -143,17 +175,9 @@ int main(void) {
   freeze_refused(&numbers);
   freeze_refused(&words);
   refuses_writes();
-  for (int at = 0; at < THREADS; at++) {
-    readers[at] = (reader){TREE_INDEX_CLOSED, TREE_INDEX_CLOSED, (uint64_t)at, 0};
-    WANT(tree_index_share(&numbers, &readers[at].numbers) == TREE_INDEX_YES);
-    WANT(tree_index_share(&words, &readers[at].words) == TREE_INDEX_YES);
-    WANT(pthread_create(&threads[at], NULL, read_all, &readers[at]) == 0);
-  }
-  for (int at = 0; at < THREADS; at++) {
-    pthread_join(threads[at], NULL);
-    found += readers[at].found;
-  }
-  WANT(found > 0);
+  start(threads, readers, &numbers, &words);
+  join(threads, readers);
+  last_of_threads(threads, readers);
   thaw(&numbers);
   thaw(&words);
   printf("C: %d threads that read one frozen index of %d pairs, each of its answers as it should be\n", THREADS, KEYS / 2);
