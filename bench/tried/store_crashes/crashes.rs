@@ -94,7 +94,7 @@ fn a_run_makes_fewer_calls(rt: HostRuntime) -> Result<(), Fail> {
     Ok(())
 }
 
-// Lets each call fail alone. What was committed before and after it is there, and the store goes on.
+// Lets each call fail alone. What was committed is there, and the store goes on.
 fn each_may_fail(alloc: Global, mixes: bool) -> Result<bool, AllocError> {
     for calls in 0..calls_of_a_run(mixes) {
         let mut files = stopping(alloc, mixes, calls + 1, calls);
@@ -125,8 +125,8 @@ fn a_call_that_fails_alone_loses_nothing_with_two_syncs(rt: HostRuntime) -> Resu
     Ok(())
 }
 
-// The toolchain's disk in memory loses all that wasn't synced. So exactly the batches are left whose
-// commit returned, after a crash at a call and then at one of the opening.
+// The toolchain's disk in memory loses all that wasn't synced. So exactly the batches are left
+// whose commit returned, after a crash at a call and then at one of the opening.
 fn leaves_what_was_synced(alloc: Global, calls: u64, again: u64) -> Result<bool, AllocError> {
     let first = Fuse::new(Memory::new(alloc), calls);
     let ended = run(alloc, Files { first }, 0, BATCHES)?;

@@ -83,7 +83,8 @@ fn told(alloc: Global, whole: &Whole, bytes: &[u8]) -> Result<Told, AllocError> 
 // How many batches a store has by where its frames end, if its pairs are those after so many.
 fn batches_in(whole: &Whole, store: &Store<Torn>) -> Told {
     for batches in 0..=BATCHES {
-        if whole.begins[batches + 1] == store.size() && has_pairs(store.index(), &whole.fronts[batches]) {
+        let is_end = whole.begins[batches + 1] == store.size();
+        if is_end && has_pairs(store.index(), &whole.fronts[batches]) {
             return Told::Opens(batches);
         }
     }
