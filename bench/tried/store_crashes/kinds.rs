@@ -1,0 +1,109 @@
+//! Files of something else are refused by name, and no byte of them changes.
+use std::alloc::{AllocError, Global};
+use std::test::Fail;
+use store_codec::{Encode, StoreKey};
+use store_log::OpenError as LogRefusal;
+use store_support::script::open_or_make;
+use store_support::torn::Torn;
+use store_support::writes::Store;
+use test_support::chance::Chance;
+use tree_store::{Files, OpenError, TreeStore};
+
+// Opens a file as a store of these keys and values. Whether it is refused as one of something else,
+// or of other kinds, and reads as before.
+fn is_refused<K: StoreKey, V: Encode>(
+    alloc: Global,
+    bytes: &[u8],
+    by_kind: bool,
+) -> Result<bool, AllocError> {
+    let files = Files {
+        first: Torn::of(alloc, bytes)?,
+    };
+    let opened: Result<TreeStore<K, V, Torn>, (OpenError, Files<Torn>)> =
+        TreeStore::open(alloc, files);
+    let Err((OpenError::Log(error), files)) = opened else {
+        return Ok(false);
+    };
+    let is_named = match error {
+        LogRefusal::NoHead => !by_kind,
+        LogRefusal::OtherKinds => by_kind,
+        _ => false,
+    };
+    Ok(is_named && *files.first.bytes == *bytes && files.first.writes == 0)
+}
+
+// Whether no store is made in a file.
+fn is_occupied(alloc: Global, bytes: &[u8]) -> Result<bool, AllocError> {
+    let files = Files {
+        first: Torn::of(alloc, bytes)?,
+    };
+    let made: Result<Store<Torn>, (OpenError, Files<Torn>)> = TreeStore::make(alloc, files, 7);
+    let Err((OpenError::Log(LogRefusal::Occupied), files)) = made else {
+        return Ok(false);
+    };
+    Ok(*files.first.bytes == *bytes && files.first.writes == 0)
+}
+
+#[test]
+fn a_file_of_something_else_is_refused(rt: HostRuntime) -> Result<(), Fail> {
+    let alloc = rt.alloc();
+    let zeros = vec![in alloc; 0u8; 5000]?;
+    let mut random = vec![in alloc; 0u8; 5000]?;
+    let mut chance = Chance::new(4);
+    for byte in &mut random {
+        *byte = chance.below(256) as u8;
+    }
+    let others: [&[u8]; 7] = [
+        b"\x7fELF\x02\x01\x01\0",
+        b"SQLite format 3\0\x10\0\x01\x01\0\x40\x20\x20",
+        b"a text",
+        b"\xd7\x80",
+        b"\0and then more than a head has, of which no crash while one is made leaves so much",
+        &zeros,
+        &random,
+    ];
+    for other in others {
+        assert!(rt; is_refused::<u64, u64>(alloc, other, false)?);
+        assert!(rt; is_occupied(alloc, other)?);
+    }
+    Ok(())
+}
+
+// The bytes of a store with a pair.
+fn store_with_a_pair(alloc: Global, made_in: &[u8]) -> Result<Vec<u8>, AllocError> {
+    let files = Files {
+        first: Torn::of(alloc, made_in)?,
+    };
+    let mut store = open_or_make(alloc, files).map_err(|_| AllocError)?;
+    store.upsert(1, 1).map_err(|_| AllocError)?;
+    store.commit().map_err(|_| AllocError)?;
+    store.into_files().first.bytes.clone()
+}
+
+#[test]
+fn keys_and_values_of_another_type_are_refused(rt: HostRuntime) -> Result<(), Fail> {
+    let alloc = rt.alloc();
+    let bytes = store_with_a_pair(alloc, &[])?;
+    assert!(rt; is_refused::<u32, u64>(alloc, &bytes, true)?);
+    assert!(rt; is_refused::<i64, u64>(alloc, &bytes, true)?);
+    assert!(rt; is_refused::<(u32, u32), u64>(alloc, &bytes, true)?);
+    assert!(rt; is_refused::<u64, bool>(alloc, &bytes, true)?);
+    assert!(rt; is_refused::<u64, Option<u64>>(alloc, &bytes, true)?);
+    assert!(rt; is_occupied(alloc, &bytes)?);
+    Ok(())
+}
+
+// A file that a crash may leave while a head is made: one byte, a closed gate and then anything, or
+// a whole head whose gate isn't open.
+#[test]
+fn a_store_is_made_in_a_blank_file(rt: HostRuntime) -> Result<(), Fail> {
+    let alloc = rt.alloc();
+    let wanted = store_with_a_pair(alloc, &[])?;
+    let mut shut = wanted[..55].to_vec(alloc)?;
+    shut[0] = 9;
+    let blanks: [&[u8]; 5] = [b"\0", b"\xd7", b"x", b"\0anything that is short", &shut];
+    for blank in blanks {
+        assert!(rt; store_with_a_pair(alloc, blank)? == wanted);
+    }
+    Ok(())
+}

@@ -1,0 +1,6 @@
+//! What the tests of a store share.
+#![tactic(auto)]
+
+pub mod script;
+pub mod torn;
+pub mod writes;
