@@ -7,12 +7,12 @@ use store_support::torn::Torn;
 use tree_store::Files;
 
 /// How many batches a run commits.
-const BATCHES: u64 = 14;
+const BATCHES: u64 = 9;
 
 /// More calls than such a run makes if torn writes mix, and else.
-const CALLS: u64 = 53;
+const CALLS: u64 = 39;
 
-const CALLS_WITH_TWO_SYNCS: u64 = 80;
+const CALLS_WITH_TWO_SYNCS: u64 = 56;
 
 // A new file that stops after so many calls.
 fn stopping(alloc: Global, mixes: bool, seed: u64, calls: u64) -> Files<Torn> {
@@ -50,8 +50,8 @@ fn survives(
     let Some((batches, mut files)) = front_of(alloc, files, committed, 1)? else {
         return Ok(false);
     };
-    files.first.calls_left = seed % 30;
-    let ended = run(alloc, files, batches, batches + 6)?;
+    files.first.calls_left = seed % 16;
+    let ended = run(alloc, files, batches, batches + 3)?;
     let (mut files, committed) = (ended.files, ended.committed);
     files.first.crash();
     Ok(front_of(alloc, files, committed, 1)?.is_some())

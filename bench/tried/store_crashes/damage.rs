@@ -8,7 +8,7 @@ use store_support::writes::{Map, Store, has_pairs};
 use tree_store::{Files, OpenError, TreeStore};
 
 /// How many batches the file has.
-const BATCHES: usize = 16;
+const BATCHES: usize = 12;
 
 /// How many bytes of a frame come before its batch.
 const HEADER: usize = 11;
