@@ -116,8 +116,8 @@ fn remove_value<const LEN: usize>(
 /// Writes an answer and a line feed. Pairs are written one by one out of the index that gave the
 /// answer.
 ///
-/// Returns `Err` if a write fails; part of the line may have been written. Walks only over the pairs
-/// that it writes, and allocates nothing.
+/// Returns `Err` if a write fails; part of the line may have been written. Walks only over the
+/// pairs that it writes, and allocates nothing.
 ///
 /// ```
 /// let answer = answer_to(index, line);
