@@ -158,12 +158,12 @@ fn is_near<const LEN: usize>(set: &TreeSetOf<u64, LEN>, elements: &[u64], number
     (below_found, above_found) == (below, above) && neighbours(set, number) == (below, above)
 }
 
-// Whether a range gives the same elements from both ends as the vector, and removes these alone.
+// Whether a range gives the same elements from both ends as the vector.
 fn is_range<const LEN: usize, R: RangeBounds<u64> + Copy>(
     set: &TreeSetOf<u64, LEN>,
     elements: &[u64],
     range: R,
-) -> Result<bool, AllocError> {
+) -> bool {
     let within = elements.iter().filter(|it| range.contains(*it)).count();
     let first = elements.iter().filter(|it| range.contains(*it)).next().copied();
     let last = elements.iter().filter(|it| range.contains(*it)).last().copied();
@@ -171,11 +171,20 @@ fn is_range<const LEN: usize, R: RangeBounds<u64> + Copy>(
         set.range(range).next().copied(),
         set.range(range).next_back().copied(),
     );
+    ends == (first, last) && set.range(range).count() == within
+}
+
+// Whether a range removes its elements alone from a copy of the set.
+fn is_cut<const LEN: usize, R: RangeBounds<u64> + Copy>(
+    set: &TreeSetOf<u64, LEN>,
+    elements: &[u64],
+    range: R,
+) -> Result<bool, AllocError> {
+    let within = elements.iter().filter(|it| range.contains(*it)).count();
     let mut rest = set.clone()?;
     rest.remove_range(range);
-    let is_cut = rest.len() == elements.len().wrapping_sub(within)
-        && rest.iter().all(|it| !range.contains(it));
-    Ok(ends == (first, last) && set.range(range).count() == within && is_cut)
+    Ok(rest.len() == elements.len().wrapping_sub(within)
+        && rest.iter().all(|it| !range.contains(it)))
 }
 
 // Whether ranges of each type are those of the vector.
@@ -186,11 +195,13 @@ fn are_ranges<const LEN: usize>(
 ) -> Result<bool, AllocError> {
     let after = (Bound::Excluded(low), Bound::Included(high));
     let lent = (Bound::Excluded(&low), Bound::Excluded(&high));
-    Ok(is_range(set, elements, after)?
-        && is_range(set, elements, lent)?
-        && is_range(set, elements, (Bound::Included(low), Bound::Excluded(high)))?
-        && is_range(set, elements, (Bound::Unbounded, Bound::Excluded(high)))?
-        && is_range(set, elements, (Bound::Included(low), Bound::Unbounded))?)
+    Ok(is_range(set, elements, after)
+        && is_range(set, elements, lent)
+        && is_range(set, elements, (Bound::Included(low), Bound::Excluded(high)))
+        && is_range(set, elements, (Bound::Unbounded, Bound::Excluded(high)))
+        && is_range(set, elements, (Bound::Included(low), Bound::Unbounded))
+        && is_cut(set, elements, after)?
+        && is_cut(set, elements, lent)?)
 }
 
 // Whether the ranges that a program writes give as many elements as the vector.
@@ -235,7 +246,9 @@ fn finds_rows<const LEN: usize>(
             assert!(rt; is_near(set, elements.as_slice(), number));
         }
         assert!(rt; are_written_ranges(set, elements.as_slice()));
-        for ends in &ENDS {
+        // Two of them do for three levels.
+        let ends = if elements.len() > 500 { &ENDS[3..5] } else { &ENDS[..] };
+        for ends in ends {
             assert!(rt; are_ranges(set, elements.as_slice(), *ends)?);
         }
     }
