@@ -6,21 +6,15 @@ use std::test::Fail;
 use store_codec::Encode;
 use store_log::{Head, Log, OpenError as LogRefusal};
 use store_support::script::open_or_make;
-use store_support::torn::Torn;
+use store_support::torn::{Machine, Torn};
 use store_support::writes::{Answer, Map, Store, Write, has_pairs, to_map, to_store};
 use test_support::chance::Chance;
-use tree_store::{Files, TreeStore};
+use tree_store::TreeStore;
 
 /// How many bytes the head takes, and how many more than its text a frame.
 const HEAD: usize = 55;
 
 const FRAME: usize = 19;
-
-fn blank(alloc: Global, mixes: bool) -> Files<Torn> {
-    Files {
-        first: Torn::new(alloc, mixes, 3),
-    }
-}
 
 // A random write of keys below 60.
 fn draw(chance: &mut Chance) -> Write {
@@ -48,23 +42,26 @@ fn record_length(write: Write, answer: Answer) -> usize {
     }
 }
 
-// A store, a map of its pairs and one of those of the last commit, how long the file is and how
-// many bytes of records were noted since.
+// A store, a map of its pairs and one of those of the last commit, how long the file is that counts,
+// how many bytes of records were noted since, and how many compactions there were.
 #[derive(Drop)]
-struct Play {
+struct Play<'m> {
     alloc: Global,
-    store: Store<Torn>,
+    store: Store<Torn<'m>>,
     map: Map,
     committed: Map,
     size: usize,
     noted: usize,
+    compactions: u64,
 }
 
-impl Play {
+impl<'m> Play<'m> {
     // Whether all that the calls which only look tell is so.
     fn is_as_the_map(&self) -> bool {
         has_pairs(self.store.index(), &self.map)
             && self.store.size() == self.size
+            && self.store.pending() == self.noted
+            && self.store.head().generation == self.compactions + 1
             && !self.store.is_stopped()
     }
 
@@ -86,6 +83,24 @@ impl Play {
         Ok(())
     }
 
+    // Writes all pairs into the other file, which has their records in one frame then.
+    fn compact(&mut self) -> Result<(), AllocError> {
+        self.store.compact(self.alloc).map_err(|_| AllocError)?;
+        self.size = HEAD + FRAME + 17 * self.map.len();
+        self.noted = 0;
+        self.compactions += 1;
+        self.committed = copy_of(self.alloc, &self.map)?;
+        Ok(())
+    }
+
+    // Whether all that is in use is tested.
+    fn is_tested(&mut self) -> bool {
+        match self.store.verify() {
+            Ok(bytes) => bytes == self.size,
+            Err(_) => false,
+        }
+    }
+
     fn roll_back(&mut self) -> Result<(), AllocError> {
         self.store.roll_back(self.alloc).map_err(|_| AllocError)?;
         self.noted = 0;
@@ -95,7 +110,7 @@ impl Play {
 
     // Opens the files again, which loses what wasn't committed.
     fn opened_again(self) -> Result<Self, AllocError> {
-        let Play { alloc, store, committed, size, .. } = self;
+        let Play { alloc, store, committed, size, compactions, .. } = self;
         let store = TreeStore::open(alloc, store.into_files()).map_err(|_| AllocError)?;
         Ok(Play {
             alloc,
@@ -104,6 +119,7 @@ impl Play {
             committed,
             size,
             noted: 0,
+            compactions,
         })
     }
 }
@@ -119,13 +135,16 @@ fn copy_of(alloc: Global, map: &Map) -> Result<Map, AllocError> {
 // Whether random writes, commits, batches that are forgotten and openings go as on the map.
 fn goes_as_the_map(alloc: Global, mixes: bool) -> Result<bool, AllocError> {
     let mut chance = Chance::new(11);
+    let machine = Machine::new(mixes);
+    let made = open_or_make(alloc, machine.files(alloc, 3));
     let mut play = Play {
         alloc,
-        store: open_or_make(alloc, blank(alloc, mixes)).map_err(|_| AllocError)?,
+        store: made.map_err(|_| AllocError)?,
         map: BTreeMap::new(alloc),
         committed: BTreeMap::new(alloc),
         size: HEAD,
         noted: 0,
+        compactions: 0,
     };
     for _ in 0..1000 {
         if !play.write(draw(&mut chance))? {
@@ -135,6 +154,12 @@ fn goes_as_the_map(alloc: Global, mixes: bool) -> Result<bool, AllocError> {
             0..12 => play.commit()?,
             12..14 => play.roll_back()?,
             14 => play = play.opened_again()?,
+            15 => play.compact()?,
+            16 => {
+                if !play.is_tested() {
+                    return Ok(false);
+                }
+            }
             _ => {}
         }
         if !play.is_as_the_map() {
@@ -153,7 +178,9 @@ fn random_calls_answer_as_the_map(rt: HostRuntime) -> Result<(), Fail> {
 
 #[test]
 fn a_new_store_has_its_head_alone(rt: HostRuntime) -> Result<(), Fail> {
-    let made: Result<Store<Torn>, _> = TreeStore::make(rt.alloc(), blank(rt.alloc(), true), 7);
+    let machine = Machine::new(true);
+    let made: Result<Store<Torn<'_>>, _> =
+        TreeStore::make(rt.alloc(), machine.files(rt.alloc(), 3), 7);
     let Ok(store) = made else {
         assert!(rt; false);
         return Ok(());
@@ -176,8 +203,8 @@ fn a_new_store_has_its_head_alone(rt: HostRuntime) -> Result<(), Fail> {
 #[test]
 fn a_commit_makes_few_calls(rt: HostRuntime) -> Result<(), Fail> {
     for (mixes, calls) in [(true, 101), (false, 200)] {
-        let files = blank(rt.alloc(), mixes);
-        let mut store = open_or_make(rt.alloc(), files).map_err(|_| AllocError)?;
+        let machine = Machine::new(mixes);
+        let mut store = open_or_make(rt.alloc(), machine.files(rt.alloc(), 3)).map_err(|_| AllocError)?;
         for key in 0..100 {
             store.upsert(key, key).map_err(|_| AllocError)?;
             assert!(rt; store.commit().is_ok() && store.commit().is_ok());
@@ -196,7 +223,8 @@ fn log_keeps_texts(alloc: Global) -> Result<bool, AllocError> {
         generation: 4,
         key: 5,
     };
-    let disk = Torn::new(alloc, true, 1);
+    let machine = Machine::new(true);
+    let disk = Torn::new(alloc, &machine, 1);
     let mut log = Log::make(alloc, disk, head).map_err(|_| AllocError)?;
     let texts: [&[u8]; 3] = [b"one", b"", b"\0\0and three"];
     let mut end = HEAD;

@@ -1,13 +1,11 @@
 //! A full disk.
-use sqlite_disk::Crash;
 use std::alloc::AllocError;
 use std::io;
 use std::test::Fail;
 use store_log::LogError;
 use store_support::script::open_or_make;
-use store_support::torn::Torn;
+use store_support::torn::{Machine, Torn};
 use store_support::writes::Store;
-use tree_store::Files;
 
 /// How many pairs a batch has.
 const KEYS: u64 = 50;
@@ -22,7 +20,7 @@ fn is_full(answer: Result<(), LogError>) -> bool {
 
 // Commits batches until the disk is full. Returns how many pairs are durable then, or `None` if the
 // last commit was refused otherwise.
-fn fill(store: &mut Store<Torn>) -> Result<Option<u64>, AllocError> {
+fn fill(store: &mut Store<Torn<'_>>) -> Result<Option<u64>, AllocError> {
     for batch in 0..200 {
         for key in batch * KEYS..(batch + 1) * KEYS {
             store.upsert(key, key).map_err(|_| AllocError)?;
@@ -42,9 +40,10 @@ fn a_full_disk_loses_nothing(rt: HostRuntime) -> Result<(), Fail> {
     let alloc = rt.alloc();
     for mixes in [true, false] {
         for room in [56, 100, 1000, 66_000, 70_000] {
-            let mut first = Torn::new(alloc, mixes, room as u64);
-            first.room = room;
-            let mut store = open_or_make(alloc, Files { first }).map_err(|_| AllocError)?;
+            let machine = Machine::new(mixes);
+            let mut files = machine.files(alloc, room as u64);
+            files.first.room = room;
+            let mut store = open_or_make(alloc, files).map_err(|_| AllocError)?;
             let Some(durable) = fill(&mut store)? else {
                 assert!(rt; false);
                 return Ok(());
@@ -57,7 +56,7 @@ fn a_full_disk_loses_nothing(rt: HostRuntime) -> Result<(), Fail> {
                 assert!(rt; store.index().len() as u64 == durable);
             }
             let mut files = store.into_files();
-            files.first.crash();
+            machine.crash(&mut files);
             files.first.room = usize::MAX;
             let mut store = open_or_make(alloc, files).map_err(|_| AllocError)?;
             assert!(rt; store.index().len() as u64 == durable);
@@ -72,15 +71,44 @@ fn a_full_disk_loses_nothing(rt: HostRuntime) -> Result<(), Fail> {
 fn no_store_is_made_without_room(rt: HostRuntime) -> Result<(), Fail> {
     let alloc = rt.alloc();
     for room in 0..56 {
-        let mut first = Torn::new(alloc, true, room as u64 + 1);
-        first.room = room;
-        let Err((_, mut files)) = open_or_make(alloc, Files { first }) else {
+        let machine = Machine::new(true);
+        let mut files = machine.files(alloc, room as u64 + 1);
+        files.first.room = room;
+        let Err((_, mut files)) = open_or_make(alloc, files) else {
             assert!(rt; false);
             return Ok(());
         };
-        files.first.crash();
+        machine.crash(&mut files);
         files.first.room = usize::MAX;
         assert!(rt; open_or_make(alloc, files).is_ok());
+    }
+    Ok(())
+}
+
+// A compaction that has no room leaves the store as it was, and one that has room follows.
+#[test]
+fn a_compaction_without_room_loses_nothing(rt: HostRuntime) -> Result<(), Fail> {
+    let alloc = rt.alloc();
+    for mixes in [true, false] {
+        for room in [0, 1, 2, 40, 60, 800] {
+            let machine = Machine::new(mixes);
+            let mut files = machine.files(alloc, room as u64);
+            files.second.room = room;
+            let mut store = open_or_make(alloc, files).map_err(|_| AllocError)?;
+            for key in 0..KEYS {
+                store.upsert(key, key).map_err(|_| AllocError)?;
+            }
+            assert!(rt; store.commit().is_ok());
+            assert!(rt; is_full(store.compact(alloc)) && !store.is_stopped());
+            store.upsert(KEYS, 1).map_err(|_| AllocError)?;
+            assert!(rt; store.commit().is_ok());
+            let mut files = store.into_files();
+            machine.crash(&mut files);
+            files.second.room = usize::MAX;
+            let mut store = open_or_make(alloc, files).map_err(|_| AllocError)?;
+            assert!(rt; store.index().len() as u64 == KEYS + 1);
+            assert!(rt; store.compact(alloc).is_ok() && store.head().generation == 2);
+        }
     }
     Ok(())
 }

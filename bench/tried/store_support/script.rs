@@ -1,4 +1,4 @@
-//! A script of writes, commits, openings and batches that are forgotten.
+//! A script of writes, commits, compactions, openings and batches that are forgotten.
 use crate::writes::{Map, Store, Write, has_pairs, to_map, to_store};
 use sqlite_disk::Disk;
 use std::alloc::{AllocError, Global};
@@ -61,9 +61,19 @@ pub struct Ended<D: Disk> {
     pub committed: u64,
 }
 
+// Commits a batch: some by a compaction.
+fn settles<D: Disk + Drop>(alloc: Global, store: &mut Store<D>, batch: u64) -> bool {
+    let answer = if batch % 4 == 3 {
+        store.compact(alloc)
+    } else {
+        store.commit()
+    };
+    answer.is_ok()
+}
+
 /// Opens files, and goes on with the batches from one on, up to another, until a call fails. Some
-/// batches are written, forgotten and written again, and behind some the store is opened again. A
-/// commit that fails and doesn't stop the store is made again.
+/// batches are written, forgotten and written again, some are committed by a compaction, and behind
+/// some the store is opened again. A commit that fails and doesn't stop the store is made again.
 pub fn run<D: Disk + Drop>(
     alloc: Global,
     files: Files<D>,
@@ -80,7 +90,7 @@ pub fn run<D: Disk + Drop>(
         if batch % 5 == 2 && store.roll_back(alloc).is_ok() {
             write_batch(&mut store, batch)?;
         }
-        let was_kept = store.commit().is_err() && !store.is_stopped();
+        let was_kept = !settles(alloc, &mut store, batch) && !store.is_stopped();
         if store.is_stopped() || was_kept && store.commit().is_err() {
             break;
         }

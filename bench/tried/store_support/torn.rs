@@ -1,19 +1,91 @@
-//! A file in memory that fails from some call on, and has room for so many bytes. A crash keeps a
-//! random part of what it may.
+//! Files in memory on a machine that stops at some call, with room for so many bytes. A crash keeps
+//! a random part of what it may.
 use sqlite_disk::{Crash, Disk, Tally};
 use std::alloc::{AllocError, Global};
+use std::cell::Cell;
 use std::io;
 use test_support::chance::Chance;
+use tree_store::Files;
 
-/// The file.
+/// The machine.
 #[derive(Drop)]
-pub struct Torn {
+pub struct Machine {
+    // Calls of its files before the first that fails.
+    calls_left: Cell<u64>,
+    // Whether that one fails alone.
+    fails_once: Cell<bool>,
+    // Whether a crash leaves each byte of a torn write old or new.
+    mixes: bool,
+}
+
+impl Machine {
+    /// Creates a machine that doesn't stop. If it mixes, a crash leaves each byte of a torn write
+    /// old or new.
+    pub fn new(mixes: bool) -> Self {
+        Machine {
+            calls_left: Cell::new(u64::MAX),
+            fails_once: Cell::new(false),
+            mixes,
+        }
+    }
+
+    /// Lets each call behind so many fail.
+    pub fn stop_after(&self, calls: u64) {
+        self.calls_left.set(calls);
+        self.fails_once.set(false);
+    }
+
+    /// Lets the call behind so many fail alone.
+    pub fn fail_after(&self, calls: u64) {
+        self.calls_left.set(calls);
+        self.fails_once.set(true);
+    }
+
+    /// Lets no call fail.
+    pub fn start(&self) {
+        self.stop_after(u64::MAX);
+    }
+
+    /// Returns how many calls there were since it started.
+    pub fn calls_made(&self) -> u64 {
+        u64::MAX - self.calls_left.get()
+    }
+
+    /// Creates two empty files. What a crash leaves of them follows from the seed.
+    pub fn files(&self, alloc: Global, seed: u64) -> Files<Torn<'_>> {
+        Files {
+            first: Torn::new(alloc, self, seed),
+            second: Torn::new(alloc, self, seed + 1),
+        }
+    }
+
+    /// Starts again, with what a crash leaves of the files.
+    pub fn crash<'m>(&'m self, files: &mut Files<Torn<'m>>) {
+        files.first.crash();
+        files.second.crash();
+        self.start();
+    }
+
+    // Counts a call.
+    fn spend(&self) -> io::Result<()> {
+        let left = self.calls_left.get();
+        if left == 0 {
+            if self.fails_once.get() {
+                self.start();
+            }
+            return Err(io::Error::other("the machine has stopped"));
+        }
+        self.calls_left.set(left - 1);
+        Ok(())
+    }
+}
+
+/// A file of a machine.
+#[derive(Drop)]
+pub struct Torn<'m> {
+    machine: &'m Machine,
     /// What a read returns.
     pub bytes: Vec<u8>,
-    /// Calls before the first that fails.
-    pub calls_left: u64,
-    /// Whether that one fails alone.
-    pub fails_once: bool,
     /// How long it may become.
     pub room: usize,
     /// How many writes it was asked for.
@@ -23,58 +95,71 @@ pub struct Torn {
     synced: Vec<u8>,
     // Where each write since the last sync began, and its length.
     written: Vec<(usize, usize)>,
-    mixes: bool,
+    // The shortest that it was since then.
+    shortest: usize,
     usable: bool,
     chance: Chance,
 }
 
-impl Torn {
-    /// Creates an empty file that doesn't fail. If it mixes, a crash leaves each byte of a torn
-    /// write old or new.
-    pub fn new(alloc: Global, mixes: bool, seed: u64) -> Self {
+impl<'m> Torn<'m> {
+    /// Creates an empty file.
+    pub fn new(alloc: Global, machine: &'m Machine, seed: u64) -> Self {
         Torn {
+            machine,
             bytes: Vec::new(alloc),
-            calls_left: u64::MAX,
-            fails_once: false,
             room: usize::MAX,
             writes: 0,
             syncs: 0,
             synced: Vec::new(alloc),
             written: Vec::new(alloc),
-            mixes,
+            shortest: 0,
             usable: true,
             chance: Chance::new(seed),
         }
     }
 
     /// Creates an empty file whose calls allocate nothing while it has so many bytes.
-    pub fn with_capacity(alloc: Global, mixes: bool, bytes: usize) -> Result<Self, AllocError> {
+    pub fn with_capacity(
+        alloc: Global,
+        machine: &'m Machine,
+        bytes: usize,
+    ) -> Result<Self, AllocError> {
         Ok(Torn {
             bytes: Vec::with_capacity(alloc, bytes)?,
             synced: Vec::with_capacity(alloc, bytes)?,
             written: Vec::with_capacity(alloc, 8)?,
-            ..Torn::new(alloc, mixes, 1)
+            ..Torn::new(alloc, machine, 1)
         })
     }
 
     /// Creates a file with these bytes on the disk.
-    pub fn of(alloc: Global, bytes: &[u8]) -> Result<Self, AllocError> {
-        let mut file = Torn::new(alloc, true, 1);
+    pub fn of(alloc: Global, machine: &'m Machine, bytes: &[u8]) -> Result<Self, AllocError> {
+        let mut file = Torn::new(alloc, machine, 1);
         file.bytes.extend_from_slice(bytes)?;
         file.synced.extend_from_slice(bytes)?;
+        file.shortest = bytes.len();
         Ok(file)
     }
 
     // What a crash leaves: each byte that was written since the last sync is old, new, or anything
-    // unless torn writes mix, and past the synced length there may be anything.
+    // unless torn writes mix. Where the file was cut off, and past the synced length, there may be
+    // anything.
     fn left(&mut self) -> Result<Vec<u8>, AllocError> {
         let mut left = self.synced.clone()?;
         for (from, length) in &self.written {
-            for at in *from..(*from + *length).min(left.len()) {
-                left[at] = left_of(&mut self.chance, self.synced[at], self.bytes[at], self.mixes);
+            for at in *from..(*from + *length).min(left.len()).min(self.bytes.len()) {
+                let (old, new) = (self.synced[at], self.bytes[at]);
+                left[at] = left_of(&mut self.chance, old, new, self.machine.mixes);
             }
         }
-        let more = self.bytes.len() - left.len();
+        for at in self.shortest..left.len() {
+            if self.chance.below(2) == 0 {
+                left[at] = self.chance.below(256) as u8;
+            }
+        }
+        let fewer = left.len().saturating_sub(self.bytes.len()) as u64;
+        left.truncate(left.len() - self.chance.below(fewer + 1) as usize);
+        let more = self.bytes.len().saturating_sub(self.synced.len());
         for _ in 0..self.chance.below(more as u64 + 1) {
             let chance = self.chance.draw();
             let byte = match chance % 3 {
@@ -85,18 +170,6 @@ impl Torn {
             left.push(byte)?;
         }
         Ok(left)
-    }
-
-    // Counts a call.
-    fn spend(&mut self) -> io::Result<()> {
-        if self.calls_left == 0 {
-            if self.fails_once {
-                self.calls_left = u64::MAX;
-            }
-            return Err(io::Error::other("the machine has stopped"));
-        }
-        self.calls_left -= 1;
-        Ok(())
     }
 
     // Writes as much as there is room for.
@@ -116,12 +189,16 @@ impl Torn {
 
     // Puts what was written on the disk.
     fn settle(&mut self) -> Result<(), AllocError> {
+        let cut = self.shortest.min(self.bytes.len());
         self.synced.resize(self.bytes.len(), 0)?;
+        self.synced[cut..].copy_from_slice(&self.bytes[cut..]);
         for (from, length) in &self.written {
-            let end = *from + *length;
-            self.synced[*from..end].copy_from_slice(&self.bytes[*from..end]);
+            let end = (*from + *length).min(cut);
+            let from = (*from).min(end);
+            self.synced[from..end].copy_from_slice(&self.bytes[from..end]);
         }
         self.written.clear();
+        self.shortest = self.bytes.len();
         Ok(())
     }
 }
@@ -140,7 +217,7 @@ fn no_memory(_: AllocError) -> io::Error {
     io::ErrorKind::OutOfMemory.into()
 }
 
-impl Disk for Torn {
+impl<'m> Disk for Torn<'m> {
     ghost seen = { λ d. d.bytes.items };
 
     ghost may_leave = { λ d c. Unit {0} };
@@ -157,14 +234,14 @@ impl Disk for Torn {
 
     ghost is_fair = { λ d key. true };
 
-    ghost is_mixing = { λ d. d.mixes };
+    ghost is_mixing = { λ d. d.machine.now.mixes };
 
     ghost seen_may_stay = { λ d. tt };
 
     ghost fair_if_clean = { λ d key clean. refl };
 
     fn mixes(&self) -> bool {
-        self.mixes
+        self.machine.mixes
     }
 
     fn key(&self) -> u64 {
@@ -183,12 +260,12 @@ impl Disk for Torn {
     }
 
     fn len(&mut self) -> io::Result<usize> {
-        self.spend()?;
+        self.machine.spend()?;
         Ok(self.bytes.len())
     }
 
     fn read_at(&mut self, at: usize, buf: &mut [u8]) -> io::Result<()> {
-        self.spend()?;
+        self.machine.spend()?;
         if at + buf.len() > self.bytes.len() {
             return Err(io::ErrorKind::UnexpectedEof.into());
         }
@@ -203,20 +280,22 @@ impl Disk for Torn {
     // A write that fails has written its bytes, as far as a crash leaves them.
     fn write_at(&mut self, at: usize, bytes: &[u8]) -> io::Result<()> {
         self.writes += 1;
-        let spent = self.spend();
+        let spent = self.machine.spend();
         let stored = self.store(at, bytes);
         spent.and(stored)
     }
 
-    // A store makes no such call.
-    fn set_len(&mut self, _len: usize) -> io::Result<()> {
-        Err(io::ErrorKind::Unsupported.into())
+    fn set_len(&mut self, len: usize) -> io::Result<()> {
+        let spent = self.machine.spend();
+        self.bytes.resize(len, 0).map_err(no_memory)?;
+        self.shortest = self.shortest.min(len);
+        spent
     }
 
     fn sync(&mut self) -> io::Result<()> {
         self.syncs += 1;
         self.usable = false;
-        self.spend()?;
+        self.machine.spend()?;
         self.settle().map_err(no_memory)?;
         self.usable = true;
         Ok(())
@@ -224,7 +303,7 @@ impl Disk for Torn {
 }
 
 /// Becomes what is left of it after the machine stopped and started again.
-impl Crash for Torn {
+impl<'m> Crash for Torn<'m> {
     fn crash(&mut self) {
         if let Ok(left) = self.left() {
             self.bytes = left;
@@ -233,8 +312,7 @@ impl Crash for Torn {
             self.synced = copy;
         }
         self.written.clear();
-        self.calls_left = u64::MAX;
-        self.fails_once = false;
+        self.shortest = self.bytes.len();
         self.usable = true;
     }
 }

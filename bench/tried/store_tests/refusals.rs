@@ -3,7 +3,7 @@
 use std::alloc::{AllocError, Global};
 use std::process::Abort;
 use store_log::{LogError, OpenError as LogRefusal};
-use store_support::torn::Torn;
+use store_support::torn::{Machine, Torn};
 use store_support::writes::{Map, Store, Write, has_pairs, to_map, to_store};
 use test_support::refusals::{begins, ends, is_granted_again, succeeds};
 use tree_store::{Files, OpenError, TreeStore};
@@ -15,6 +15,10 @@ const OPEN: &str = "TreeStore::open";
 const COMMIT: &str = "TreeStore::commit";
 
 const ROLL_BACK: &str = "TreeStore::roll_back";
+
+const COMPACT: &str = "TreeStore::compact";
+
+const VERIFY: &str = "TreeStore::verify";
 
 // Each is the first write of a store that was opened, so its record needs memory.
 static WRITES: [Write; 8] = [
@@ -49,11 +53,11 @@ fn is_memory(error: &OpenError) -> bool {
 }
 
 // Opens or makes a store once, by the name of the call.
-fn store_once(
+fn store_once<'m>(
     alloc: Global,
-    files: Files<Torn>,
+    files: Files<Torn<'m>>,
     call: &str,
-) -> Result<Store<Torn>, (OpenError, Files<Torn>)> {
+) -> Result<Store<Torn<'m>>, (OpenError, Files<Torn<'m>>)> {
     begins(alloc, call);
     let answer = if call == MAKE {
         TreeStore::make(alloc, files, 7)
@@ -65,28 +69,28 @@ fn store_once(
 }
 
 // Opens or makes a store, at once or the second time. A refusal writes nothing.
-fn store_twice(
+fn store_twice<'m>(
     rt: &impl Abort,
     alloc: Global,
-    files: Files<Torn>,
+    files: Files<Torn<'m>>,
     call: &str,
-) -> Result<Store<Torn>, AllocError> {
-    let writes = files.first.writes;
+) -> Result<Store<Torn<'m>>, AllocError> {
+    let writes = files.first.writes + files.second.writes;
     let (error, files) = match store_once(alloc, files, call) {
         Ok(store) => return Ok(store),
         Err(refused) => refused,
     };
-    assert!(rt; is_memory(&error) && files.first.writes == writes);
+    assert!(rt; is_memory(&error) && files.first.writes + files.second.writes == writes);
     let second = store_once(alloc, files, call);
     assert!(rt; is_granted_again(alloc, call, second.is_ok())?);
     second.map_err(|_| AllocError)
 }
 
 // Makes a write, at once or the second time. One that is refused changes no pair.
-fn write_twice(
+fn write_twice<'m>(
     rt: &impl Abort,
     alloc: Global,
-    store: &mut Store<Torn>,
+    store: &mut Store<Torn<'m>>,
     map: &Map,
     write: Write,
 ) -> Result<(), AllocError> {
@@ -105,24 +109,29 @@ fn write_twice(
     Ok(())
 }
 
-// Commits or rolls back once, by the name of the call.
-fn settle_once(alloc: Global, store: &mut Store<Torn>, call: &str) -> Result<(), OpenError> {
+// Commits, compacts, verifies or rolls back once, by the name of the call.
+fn settle_once<'m>(
+    alloc: Global,
+    store: &mut Store<Torn<'m>>,
+    call: &str,
+) -> Result<(), OpenError> {
+    let failed = |error| OpenError::Log(LogRefusal::Log(error));
     begins(alloc, call);
-    let answer = if call == COMMIT {
-        store.commit().map_err(|error| OpenError::Log(LogRefusal::Log(error)))
-    } else {
-        store.roll_back(alloc)
+    let answer = match call {
+        COMMIT => store.commit().map_err(failed),
+        COMPACT => store.compact(alloc).map_err(failed),
+        VERIFY => store.verify().map(|_| ()),
+        _ => store.roll_back(alloc),
     };
     ends(alloc);
     answer
 }
 
-// Commits or rolls back, at once or the second time. A refusal doesn't stop the store, and no pair
-// changes.
-fn settle_twice(
+// Does so at once or the second time. A refusal doesn't stop the store, and no pair changes.
+fn settle_twice<'m>(
     rt: &impl Abort,
     alloc: Global,
-    store: &mut Store<Torn>,
+    store: &mut Store<Torn<'m>>,
     map: &Map,
     call: &str,
 ) -> Result<(), AllocError> {
@@ -136,13 +145,13 @@ fn settle_twice(
 }
 
 // Opens the files, makes a write and forgets it, makes it again and commits it.
-fn changes_twice(
+fn changes_twice<'m>(
     rt: &impl Abort,
     alloc: Global,
-    files: Files<Torn>,
+    files: Files<Torn<'m>>,
     map: &mut Map,
     write: Write,
-) -> Result<Files<Torn>, AllocError> {
+) -> Result<Files<Torn<'m>>, AllocError> {
     let mut store = store_twice(rt, alloc, files, OPEN)?;
     assert!(rt; has_pairs(store.index(), map));
     write_twice(rt, alloc, &mut store, map, write)?;
@@ -152,15 +161,19 @@ fn changes_twice(
     to_map(map, write)?;
     assert!(rt; has_pairs(store.index(), map));
     settle_twice(rt, alloc, &mut store, map, COMMIT)?;
-    settle_twice(rt, alloc, &mut store, map, ROLL_BACK)?;
-    assert!(rt; has_pairs(store.index(), map));
+    for call in [ROLL_BACK, COMPACT, VERIFY, ROLL_BACK] {
+        settle_twice(rt, alloc, &mut store, map, call)?;
+        assert!(rt; has_pairs(store.index(), map));
+    }
     Ok(store.into_files())
 }
 
 fn loses_nothing_steps(rt: &impl Abort, alloc: Global, mixes: bool) -> Result<(), AllocError> {
     let mut map = Map::new(alloc);
+    let machine = Machine::new(mixes);
     let files = Files {
-        first: Torn::with_capacity(alloc, mixes, 1 << 17)?,
+        first: Torn::with_capacity(alloc, &machine, 1 << 17)?,
+        second: Torn::with_capacity(alloc, &machine, 1 << 17)?,
     };
     let mut files = store_twice(rt, alloc, files, MAKE)?.into_files();
     for write in &WRITES {

@@ -27,3 +27,10 @@ io_caused S (Err (Io e)) failed f = f failed.1
 io_caused S (Err Memory) failed f = absurd failed.0
 io_caused S (Err TooLong) failed f = absurd failed.0
 io_caused S (Err Stopped) failed f = absurd failed.0
+
+-- a failed disk says no more
+pub disk_caused : (S : Type 0) (e : LogError) → IsIo e → CausedBy e (Unit {0}) S
+disk_caused S (Io error) is = tt
+disk_caused S Memory is = absurd is
+disk_caused S TooLong is = absurd is
+disk_caused S Stopped is = absurd is

@@ -8,7 +8,7 @@ use Rattle.store_log.specs.Log.{HasHead, IsBlank, IsClosed, IsFresh}
 use Rattle.store_log.proofs.Ranges.{torn_back, held_part}
 
 -- a torn first byte
-torn_first : (old c : List ℕ) → 0 < length old → Torn 0 1 old c → c ≡ slice_index c 0 ∷ drop 1 old
+pub torn_first : (old c : List ℕ) → 0 < length old → Torn 0 1 old c → c ≡ slice_index c 0 ∷ drop 1 old
 torn_first old [] some torn = absurd (omega (arith, torn.no_shorter))
 torn_first old (x ∷ c) some torn = ap (λ (l : List ℕ). x ∷ l) (torn_back 0 1 old (x ∷ c) torn (omega arith))
 

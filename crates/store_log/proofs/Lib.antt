@@ -7,5 +7,6 @@ pub mod Heads
 pub mod Ranges
 pub mod Returned
 pub mod Shut
+pub mod Spares
 pub mod Steps
 pub mod Texts

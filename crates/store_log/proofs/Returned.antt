@@ -1,6 +1,6 @@
 -- Facts that hold whatever a call returned.
 use Rattle.std.proofs.Common.{◌≡◌, ◌⊎◌, inl, inr, ℕ, ◌<◌, arith}
-use Rattle.std.specs.Prelude.{Result, Ok, Err, IfOk, OnOk, OnErr}
+use Rattle.std.specs.Prelude.{Result, Ok, Err, IfErr, IfOk, OnOk, OnErr, Option, Some, None, IfSome, IfNone}
 
 pub given_err : {T E P : Type 0} (r : Result T E) → P → OnErr r P
 given_err (Ok x) p = search
@@ -29,3 +29,15 @@ pub with_room : {T E P R Q : Type 0} (r : Result T E) (room : ℕ) → 0 < room 
 with_room (Ok x) room some ok err f h = f ok
 with_room (Err e) room some ok (inl z) f h = absurd (omega (arith, some, z))
 with_room (Err e) room some ok (inr p) f h = h p
+
+pub if_some_then : {A : Type 0} {P Q : A → Type 0} (o : Option A) → IfSome o P → ((x : A) → P x → Q x) → IfSome o Q
+if_some_then (Some x) p f = f x p
+if_some_then None p f = search
+
+pub if_none_then : {A P Q : Type 0} (o : Option A) → IfNone o P → (P → Q) → IfNone o Q
+if_none_then (Some x) p f = search
+if_none_then None p f = f p
+
+pub if_err_then : {T E : Type 0} {P Q : E → Type 0} (r : Result T E) → IfErr r P → ((e : E) → P e → Q e) → IfErr r Q
+if_err_then (Ok x) p f = search
+if_err_then (Err e) p f = f e p

@@ -3,3 +3,4 @@ pub mod Head
 pub mod Log
 pub mod Refusal
 pub mod Rest
+pub mod Spare

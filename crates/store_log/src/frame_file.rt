@@ -18,7 +18,7 @@ const GROWTH: usize = 1 << 16;
 const FULL: usize = 1 << 60;
 
 // The length of the longest text.
-const LONGEST_TEXT: usize = LONGEST - SEAL_LENGTH;
+pub(crate) const LONGEST_TEXT: usize = LONGEST - SEAL_LENGTH;
 
 /// A file of frames, and where they end. From `end` on there are `room` zeros, all of them on the
 /// disk, of which the first is the closed gate of the next frame. A file without room is stopped.

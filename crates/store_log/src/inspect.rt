@@ -68,8 +68,9 @@ fn without_frame(bytes: &[u8]) -> OpenError
     }
 }
 
-// Returns whether a crash may have left the file while its head was being made.
-pub(crate) fn is_blank(bytes: &[u8]) -> bool
+/// Returns whether a crash may have left the file while its head was being made. Runs in constant
+/// time.
+pub fn is_blank(bytes: &[u8]) -> bool
     ensures { IsTrue result ↔ IsBlank bytes.now }
 {
     let Some((gate, behind)) = bytes.split_first() else {
@@ -101,7 +102,7 @@ fn has_head(behind: &[u8]) -> bool
 }
 
 // Returns the head of a batch, if its seal fits.
-fn sealed_head(batch: &[u8]) -> Option<Head>
+pub(crate) fn sealed_head(batch: &[u8]) -> Option<Head>
     ensures found { IfSome result (λ head. IsHeadBatch batch.now head) }
     ensures none { IfNone result ((head : HeadOf) → IsHeadBatch batch.now head → ⊥) }
 {

@@ -11,9 +11,12 @@ mod inspect;
 mod log;
 mod make;
 mod open;
+mod spare;
 mod synced;
 
 pub use error::{LogError, OpenError};
 pub use head::Head;
-pub use inspect::text_in;
+pub use inspect::{is_blank, text_in};
 pub use log::Log;
+pub use open::read_all;
+pub use spare::{head_of, is_spare, retire};

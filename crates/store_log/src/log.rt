@@ -5,6 +5,7 @@ ghost use Rattle.store_log.specs.Cause.{CausedBy};
 ghost use Rattle.store_log.specs.Head.{HasKinds};
 ghost use Rattle.store_log.specs.Log.{HasTexts, IsBlank, IsFresh, IsUntouched, LeavesTexts, end_of};
 ghost use Rattle.store_log.specs.Refusal.{IsRefusal};
+ghost use Rattle.store_log.specs.Spare.{AreOlder, IsOlder, next_head};
 ghost use Rattle.store_log.specs.declared.head.Head.{Head as HeadOf};
 
 use crate::frame_file::FrameFile;
@@ -12,11 +13,14 @@ use crate::head::{Head, head_frame};
 use crate::inspect::{examine, is_blank};
 use crate::make::write_head;
 use crate::open::read_all;
+use crate::spare::{stage, two_frames};
+use crate::synced::write_synced;
 use crate::{LogError, OpenError};
 use sqlite_disk::Disk;
 use std::alloc::Global;
 use std::marker::Model;
-use store_frames::seal_of;
+use std::mem;
+use store_frames::{GATE, seal_of};
 
 /// A log of texts in one file, behind a head. Each text is in a frame, so a crash leaves all of it
 /// or nothing, and under a seal, so damage is found.
@@ -69,6 +73,7 @@ impl<D: Disk> Log<D> {
         ensures reached { IfOk result (λ opened. IsTrue (D.is_clean opened.0.disk) → mark ≤ end_of (D.seen disk)) }
         ensures runs { IfOk result (λ opened. opened.0.stopped ≡ false) }
         ensures clean { IfOk result (λ opened. IsTrue (D.is_clean opened.0.disk) → IsTrue (D.is_clean disk)) }
+        ensures clean_err { IfErr result (λ e. IsTrue (D.is_clean e.1) → IsTrue (D.is_clean disk)) }
         ensures kept { IfOk result (λ opened. IsTrue (D.is_clean opened.0.disk) → LeavesTexts opened.0.head opened.0.texts (D.may_leave opened.0.disk)) }
 
         // A file that has a head of these kinds and sealed texts is not refused, and a refusal
@@ -111,6 +116,9 @@ impl<D: Disk> Log<D> {
         ensures blank { IfOk result (λ log. IsTrue (D.is_clean log.disk) → IsBlank (D.seen disk)) }
         ensures untouched { IfErr result (λ e. IsRefusal e.0 → IsUntouched D.seen D.may_leave disk e.1) }
         ensures occupied { IfErr result (λ e. IsTrue (D.is_clean e.1) → IsRefusal e.0 → IsBlank (D.seen disk) → ⊥) }
+
+        // After any error a file that was not blank is as it was.
+        ensures kept { IfErr result (λ e. IsTrue (D.is_clean e.1) → (IsBlank (D.seen disk) → ⊥) → IsUntouched D.seen D.may_leave disk e.1) }
         ensures crash { IfErr result (λ e. IsTrue (D.is_clean e.1) → IsBlank (D.seen disk) → (file : List ℕ) → D.may_leave e.1 file → IsFresh file) }
     {
         let bytes = match read_all(alloc, &mut disk) {
@@ -180,6 +188,7 @@ impl<D: Disk> Log<D> {
     /// Allocates the length of the file.
     pub fn read(&mut self) -> Result<Vec<u8>, LogError>
         ensures texts { IfOk result (λ bytes. IsTrue (D.is_clean self.new.disk) → HasTexts self.new.head self.new.texts bytes.items) }
+        ensures bytes { IfOk result (λ bytes. IsTrue (D.is_clean self.new.disk) → bytes.items ≡ D.seen self.old.disk) }
         ensures seen { D.seen self.new.disk ≡ D.seen self.old.disk }
         ensures head { self.new.head ≡ self.old.head }
         ensures same { self.new.texts ≡ self.old.texts }
@@ -191,6 +200,34 @@ impl<D: Disk> Log<D> {
             return Err(LogError::Stopped);
         }
         read_all(self.file.alloc, &mut self.file.disk)
+    }
+
+    /// Reads the file again, and tests its head and each seal. Returns how many bytes were tested.
+    ///
+    /// Returns `Err` if the file is damaged, if it can't be read, if it cannot allocate, or if the
+    /// log is stopped. Allocates the length of the file.
+    pub fn verify(&mut self) -> Result<usize, OpenError>
+        ensures sound { IfErr result (λ e. IsRefusal e → IsTrue (D.is_clean self.new.disk) → ⊥) }
+        ensures seen { D.seen self.new.disk ≡ D.seen self.old.disk }
+        ensures head { self.new.head ≡ self.old.head }
+        ensures same { self.new.texts ≡ self.old.texts }
+        ensures stopped { self.new.stopped ≡ self.old.stopped }
+        ensures crash { (file : List ℕ) → D.may_leave self.new.disk file → D.may_leave self.old.disk file }
+        ensures clean { IsTrue (D.is_clean self.new.disk) → IsTrue (D.is_clean self.old.disk) }
+    {
+        if self.file.room == 0 {
+            return Err(OpenError::Log(LogError::Stopped));
+        }
+        let kinds = (self.head.kind_of_keys, self.head.kind_of_values);
+        let end = self.file.end;
+        let bytes = match self.read() {
+            Ok(bytes) => bytes,
+            Err(error) => return Err(OpenError::Log(error)),
+        };
+        match examine(&bytes, kinds, end) {
+            Ok((_, end)) => Ok(end),
+            Err(refusal) => Err(refusal),
+        }
     }
 
     /// Appends a text. At `Ok` it is on the disk, and each crash from then on leaves it.
@@ -224,5 +261,52 @@ impl<D: Disk> Log<D> {
         }
         let seal = seal_of(self.head.key, text);
         self.file.append(text, &seal)
+    }
+
+    /// Writes a log of this one text into a spare disk, under the next generation, and goes on in
+    /// it. The disks change places. The gate of the head is opened last, so a crash leaves the
+    /// spare file older than this log, or with the new log.
+    ///
+    /// Returns `Err` if the text is too long, if it cannot allocate, or if the spare disk fails.
+    /// Then the log is as before, and may go on, or it is stopped: the spare file may have the new
+    /// log. Returns `Err` too, and changes nothing, if the log is stopped or the spare disk can't
+    /// be used.
+    ///
+    /// Syncs the spare disk at most six times. Allocates a copy of the text.
+    pub fn rewrite(&mut self, spare: &mut D, text: &[u8]) -> Result<(), LogError>
+        requires older { IsTrue (D.is_clean self.old.disk) → IsTrue (D.is_clean spare.old) → AreOlder self.old.head.generation (D.may_leave spare.old) }
+        ensures rewritten { OnOk result (IsTrue (D.is_clean self.new.disk) → (self.new.texts ≡ text.now ∷ []) × LeavesTexts self.new.head self.new.texts (D.may_leave self.new.disk)) }
+        ensures turned { OnOk result ((self.new.head ≡ next_head self.old.head) × (self.new.stopped ≡ false) × (spare.new ≡ self.old.disk)) }
+        ensures runs { OnOk result (self.old.stopped ≡ false) }
+        ensures same { OnErr result ((self.new.disk ≡ self.old.disk) × (self.new.head ≡ self.old.head) × (self.new.texts ≡ self.old.texts)) }
+        ensures refused { OnErr result ((self.new.stopped ≡ true) ⊎ ((self.new ≡ self.old) × (IsTrue (D.is_clean self.old.disk) → IsTrue (D.is_clean spare.new) → AreOlder self.old.head.generation (D.may_leave spare.new)))) }
+
+        // A crash leaves the spare file older than the log, or with the new one.
+        ensures crash { OnErr result (IsTrue (D.is_clean self.old.disk) → IsTrue (D.is_clean spare.new) → (file : List ℕ) → D.may_leave spare.new file →
+            IsOlder self.old.head.generation file ⊎ HasTexts (next_head self.old.head) (text.now ∷ []) file) }
+        ensures cause { IfErr result (λ e. CausedBy e (Unit {0}) ((self.new ≡ self.old) × (spare.new ≡ spare.old))) }
+        ensures stopped { self.old.stopped ≡ true → IsErrOf result LogError.Stopped }
+        ensures clean_ok { OnOk result (IsTrue (D.is_clean self.new.disk) → IsTrue (D.is_clean spare.old)) }
+        ensures clean_err { OnErr result (IsTrue (D.is_clean spare.new) → IsTrue (D.is_clean spare.old)) }
+    {
+        if self.file.room == 0 || !spare.may_be_used() {
+            return Err(LogError::Stopped);
+        }
+        if self.head.generation == u64::MAX {
+            return Err(LogError::TooLong);
+        }
+        let head = Head {
+            generation: self.head.generation + 1,
+            ..self.head
+        };
+        let (first, frame) = two_frames(self.file.alloc, &head, text)?;
+        stage(spare, &first, &frame)?;
+        self.file.room = 0;
+        write_synced(spare, 0, &[GATE])?;
+        mem::swap(&mut self.file.disk, spare);
+        self.file.end = first.len() + frame.len() - 1;
+        self.file.room = 1;
+        self.head = head;
+        Ok(())
     }
 }

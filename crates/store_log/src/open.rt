@@ -45,8 +45,9 @@ impl<D: Disk> FrameFile<D> {
     }
 }
 
-// Reads all bytes of a file.
-pub(crate) fn read_all<D: Disk>(alloc: Global, disk: &mut D) -> Result<Vec<u8>, LogError>
+/// Returns all bytes of a file. Returns `Err` if the disk fails or if it cannot allocate.
+///
+pub fn read_all<D: Disk>(alloc: Global, disk: &mut D) -> Result<Vec<u8>, LogError>
     requires { IsTrue (D.is_usable disk.old) }
     ensures bytes { IfOk result (λ bytes. IsTrue (D.is_clean disk.new) → bytes.items ≡ D.seen disk.old) }
     ensures seen { D.seen disk.new ≡ D.seen disk.old }

@@ -11,10 +11,10 @@ use Rattle.store_codec.specs.declared.records.Record.TheVariants.{Put, Remove, C
 use Rattle.tree_model.proofs.Common.{IsTotalOrder, alike_right}
 use Rattle.tree_model.specs.Pairs.{below, above, cut, put, without, meets_lower, meets_upper}
 use Rattle.tree_store.specs.Changes.{changed, changed_by, Leads, ReadsRecords}
-use Rattle.tree_store.specs.Disks.{Held}
+use Rattle.store_pair.specs.Pair.{Held}
 use Rattle.tree_store.specs.Laws.{AreAlike}
 use Rattle.tree_store.specs.Store.{StandFor}
-use Rattle.tree_store.proofs.Saved.{has_once}
+use Rattle.tree_store.proofs.Saved.{pair_once}
 
 module _ {K V A B : Type 0} (seen_key : K → A) (seen_value : V → B) where
   alike-append : (a b c d : List (K × V)) → AreAlike seen_key seen_value a b → AreAlike seen_key seen_value c d → AreAlike seen_key seen_value (a ++ c) (b ++ d)
@@ -78,7 +78,7 @@ module _ {K V A B : Type 0} {cmp : K → K → Ordering} (o : IsTotalOrder cmp) 
     alike_changed Clear Clear same = tt
     alike_changed r q same = let z : ⊥ = cc same in absurd z
 
-  alike_changed_by : (rs qs : List (Record K V)) → map (record_map seen_key seen_value) rs ≡ map (record_map seen_key seen_value) qs → (old other : List (K × V)) → AreAlike seen_key seen_value old other → AreAlike seen_key seen_value (changed_by cmp rs old) (changed_by cmp qs other)
+  pub alike_changed_by : (rs qs : List (Record K V)) → map (record_map seen_key seen_value) rs ≡ map (record_map seen_key seen_value) qs → (old other : List (K × V)) → AreAlike seen_key seen_value old other → AreAlike seen_key seen_value (changed_by cmp rs old) (changed_by cmp qs other)
   alike_changed_by [] [] same old other h = h
   alike_changed_by (r ∷ rs) (q ∷ qs) same old other h =
       let first : record_map seen_key seen_value r ≡ record_map seen_key seen_value q = cc same in
@@ -96,5 +96,5 @@ module _ {K V A B : Type 0} {cmp : K → K → Ordering} (o : IsTotalOrder cmp) 
 
     pub stand_once : (kinds : ℕ × ℕ) (held : Held) (one other : List (K × V)) → StandFor cmp seen_key seen_value read kinds held one → StandFor cmp seen_key seen_value read kinds held other → AreAlike seen_key seen_value one other
     stand_once kinds held one other a b =
-        let texts = has_once held.first a.head b.head a.texts b.texts a.has b.has in
+        let texts = (pair_once held a.head b.head a.texts b.texts a.has b.has).0 in
         alike_led b.texts [] [] one other tt (subst (λ (t : List (List ℕ)). Leads cmp seen_key seen_value read t [] one) texts a.leads) b.leads

@@ -1,4 +1,6 @@
 pub mod Alike
+pub mod Listed
 pub mod Noted
 pub mod Replayed
 pub mod Saved
+pub mod Settled

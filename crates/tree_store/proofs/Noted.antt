@@ -53,7 +53,7 @@ module _ {A B : Type 0} (read : List ℕ → Option (Record A B × List ℕ)) wh
   spelled_reads [] text spells = spells
   spelled_reads (r ∷ records) text spells = (spells.1, ap read spells.2 ∙ spells.3 spells.1, spelled_reads records spells.1 spells.4)
 
-  spells-append : (xs ys : List (Record A B)) (a b : List ℕ) → Spells read xs a → Spells read ys b → Spells read (xs ++ ys) (a ++ b)
+  pub spells-append : (xs ys : List (Record A B)) (a b : List ℕ) → Spells read xs a → Spells read ys b → Spells read (xs ++ ys) (a ++ b)
   spells-append [] ys a b x y = subst (Spells read ys) (ap (λ (l : List ℕ). l ++ b) (sym x)) y
   spells-append (r ∷ xs) ys a b x y = (x.0, x.1 ++ b, ap (λ (l : List ℕ). l ++ b) x.2 ∙ append_assoc x.0 x.1 b, x.3, spells-append xs ys x.1 b x.4 y)
 

@@ -2,7 +2,7 @@
 use Rattle.std.specs.Prelude.{◌≡◌, ℕ, List, [], ◌∷◌, Option}
 use Rattle.std.specs.declared.cmp.Ordering.{Ordering}
 use Rattle.store_codec.specs.declared.records.Record.{Record}
-use Rattle.tree_store.specs.Disks.{Held}
+use Rattle.store_pair.specs.Pair.{Held}
 use Rattle.tree_store.specs.Store.{StandFor}
 
 -- the pairs are seen alike

@@ -2,13 +2,27 @@
 ghost use Rattle.std.specs.Prelude.{◌≡◌, ◌↔◌, [], IsTrue, IfOk, OnOk, OnErr};
 ghost use Rattle.store_codec.specs.Records.{record_at};
 ghost use Rattle.tree_model.specs.Edits.{Upserts};
-ghost use Rattle.tree_model.specs.Pairs.{IsPresent, cut, high_of, low_of, pair_at, without};
+ghost use Rattle.tree_model.specs.Pairs.{IsAscending, IsPresent, cut, high_of, low_of, pair_at, without};
 ghost use Rattle.tree_store.specs.Changes.{InsertsOrRefuses, Notes};
 
-use std::alloc::AllocError;
+use std::alloc::{AllocError, Global};
 use std::ops::Bound;
 use store_codec::{Encode, StoreKey, push_clear, push_cut, push_put, push_remove};
 use tree_index::{InsertError, TreeIndex};
+
+// Returns the records that store the pairs of an index, in key order.
+pub(crate) fn all_records<K: StoreKey, V: Encode>(
+    alloc: Global,
+    index: &TreeIndex<K, V>,
+) -> Result<Vec<u8>, AllocError>
+    ensures noted { IfOk result (λ text. IsAscending K.cmp index.now.pairs → Notes K.cmp K.seen V.seen (record_at K.value_at V.value_at) [] text.items [] index.now.pairs) }
+{
+    let mut text = Vec::new(alloc);
+    for (key, value) in index {
+        push_put(&mut text, key, value)?;
+    }
+    Ok(text)
+}
 
 // Stores a pair if its key is absent.
 pub(crate) fn insert<K: StoreKey, V: Encode>(

@@ -6,13 +6,12 @@
 
 mod batch;
 mod error;
-mod files;
 pub mod laws;
 mod replay;
 mod store;
 mod writes;
 
 pub use error::OpenError;
-pub use files::Files;
 pub use store::TreeStore;
 pub use store_log::{Head, LogError};
+pub use store_pair::Files;

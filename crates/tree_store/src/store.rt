@@ -2,11 +2,13 @@
 ghost use Rattle.std.specs.Prelude.{◌≡◌, ◌⊎◌, [], List, false, true, OnOk, OnErr, IfOk, IfErr, IsErrOf};
 ghost use Rattle.store_codec.specs.Records.{record_at};
 ghost use Rattle.store_log.specs.Cause.{CausedBy};
-ghost use Rattle.tree_store.specs.Disks.{AreBlank, AreClean, AreFresh, AreSettled, AreUntouched, AreUsable, HaveFailed, Held, MayHold, held_in, used_in};
+ghost use Rattle.store_log.specs.Spare.{next_head};
+ghost use Rattle.store_pair.specs.Pair.{AreBlank, AreClean, AreFresh, AreSettled, AreUntouched, AreUsable, AreUsed, HaveFailed, Held, MayHold, held_in};
 ghost use Rattle.tree_store.specs.Refusal.{Refuses, RefusesAtOnce};
-ghost use Rattle.tree_store.specs.Store.{HasSaved, Leave, StandFor};
+ghost use Rattle.tree_store.specs.Store.{HasSaved, Leave, StandFor, new_head};
 ghost use Rattle.store_log.specs.declared.error.OpenError.TheVariants.{Blank};
 
+use crate::batch::all_records;
 use crate::error::ReplayError;
 use crate::replay::replayed;
 use crate::{Files, LogError, OpenError};
@@ -14,7 +16,8 @@ use sqlite_disk::Disk;
 use std::alloc::Global;
 use std::marker::Model;
 use store_codec::{Encode, StoreKey};
-use store_log::{Head, Log};
+use store_log::Head;
+use store_pair::LogPair;
 use tree_index::TreeIndex;
 
 /// An ordered index whose writes survive a crash.
@@ -26,7 +29,7 @@ use tree_index::TreeIndex;
 /// a sync that fails, since nothing is known of the files then. The caller must open it again.
 pub struct TreeStore<K: StoreKey, V: Encode, D: Disk> {
     pub(crate) index: TreeIndex<K, V>,
-    pub(crate) log: Log<D>,
+    pub(crate) log: LogPair<D>,
     // The records of the writes since the last commit.
     pub(crate) batch: Vec<u8>,
 }
@@ -76,6 +79,7 @@ impl<K: StoreKey, V: Encode, D: Disk> TreeStore<K, V, D> {
             Leave K.cmp K.seen V.seen (record_at K.value_at V.value_at) (K.kind_number, V.kind_number) D.may_leave store.saved.files store.pairs) }
         ensures runs { IfOk result (λ store. store.saved.stopped ≡ false) }
         ensures clean { IfOk result (λ store. AreClean D.is_clean store.saved.files → AreClean D.is_clean files) }
+        ensures clean_err { IfErr result (λ e. AreClean D.is_clean e.1 → AreClean D.is_clean files) }
 
         // Files that stand for some pairs are not refused, and most refusals change nothing.
         ensures sound { IfErr result (λ e. AreClean D.is_clean e.1 → Refuses e.0 → (pairs : List (K × V)) →
@@ -89,10 +93,9 @@ impl<K: StoreKey, V: Encode, D: Disk> TreeStore<K, V, D> {
             StandFor K.cmp K.seen V.seen (record_at K.value_at V.value_at) (K.kind_number, V.kind_number) (held_in D.seen files) pairs →
             Leave K.cmp K.seen V.seen (record_at K.value_at V.value_at) (K.kind_number, V.kind_number) D.may_leave e.1 pairs) }
     {
-        let Files { first } = files;
-        let (log, bytes) = match Log::open(alloc, first, (K::kind(), V::kind()), 0) {
+        let (log, bytes) = match LogPair::open(alloc, files, (K::kind(), V::kind())) {
             Ok(opened) => opened,
-            Err((error, first)) => return Err((OpenError::Log(error), Files { first })),
+            Err((error, files)) => return Err((OpenError::Log(error), files)),
         };
         match replayed(alloc, &bytes) {
             Ok(index) => Ok(TreeStore {
@@ -100,8 +103,8 @@ impl<K: StoreKey, V: Encode, D: Disk> TreeStore<K, V, D> {
                 log,
                 batch: Vec::new(alloc),
             }),
-            Err(ReplayError::Memory) => Err((OpenError::Memory, Files::of(log))),
-            Err(ReplayError::Unreadable) => Err((OpenError::Unreadable, Files::of(log))),
+            Err(ReplayError::Memory) => Err((OpenError::Memory, log.into_files())),
+            Err(ReplayError::Unreadable) => Err((OpenError::Unreadable, log.into_files())),
         }
     }
 
@@ -111,6 +114,8 @@ impl<K: StoreKey, V: Encode, D: Disk> TreeStore<K, V, D> {
     /// Returns `Err` with the files, and changes no byte, if they are not blank. Returns `Err` too
     /// if the disk fails or if it cannot allocate. Then the files are blank, or have a store
     /// without a pair.
+    ///
+    /// Writes a head of 55 bytes in a few steps, and syncs after each. Allocates the head.
     pub fn make(alloc: Global, files: Files<D>, key: u64) -> Result<Self, (OpenError, Files<D>)>
         requires usable { AreUsable D.is_usable files }
         requires settled { AreSettled D.seen D.may_leave files }
@@ -121,24 +126,27 @@ impl<K: StoreKey, V: Encode, D: Disk> TreeStore<K, V, D> {
             Leave K.cmp K.seen V.seen (record_at K.value_at V.value_at) (K.kind_number, V.kind_number) D.may_leave store.saved.files []) }
         ensures runs { IfOk result (λ store. store.saved.stopped ≡ false) }
         ensures blank { IfOk result (λ store. AreClean D.is_clean store.saved.files → AreBlank (held_in D.seen files)) }
+        ensures head { IfOk result (λ store. store.saved.head ≡ new_head K.kind_number V.kind_number key) }
         ensures occupied { IfErr result (λ e. AreClean D.is_clean e.1 → Refuses e.0 → AreBlank (held_in D.seen files) → ⊥) }
+
+        // After any error files that were not blank are as they were.
+        ensures kept { IfErr result (λ e. AreClean D.is_clean e.1 → (AreBlank (held_in D.seen files) → ⊥) → AreUntouched D.seen D.may_leave files e.1) }
         ensures untouched { IfErr result (λ e. Refuses e.0 → AreUntouched D.seen D.may_leave files e.1) }
         ensures crash { IfErr result (λ e. AreClean D.is_clean e.1 → AreBlank (held_in D.seen files) → (left : Held) → MayHold D.may_leave e.1 left → AreFresh left) }
     {
-        let Files { first } = files;
         let head = Head {
             kind_of_keys: K::kind(),
             kind_of_values: V::kind(),
             generation: 1,
             key,
         };
-        match Log::make(alloc, first, head) {
+        match LogPair::make(alloc, files, head) {
             Ok(log) => Ok(TreeStore {
                 index: TreeIndex::new(alloc),
                 log,
                 batch: Vec::new(alloc),
             }),
-            Err((error, first)) => Err((OpenError::Log(error), Files { first })),
+            Err((error, files)) => Err((OpenError::Log(error), files)),
         }
     }
 
@@ -187,6 +195,82 @@ impl<K: StoreKey, V: Encode, D: Disk> TreeStore<K, V, D> {
             }
             Err(error) => Err(error),
         }
+    }
+
+    /// Writes the pairs into the other file, under the next generation, and goes on there. So the
+    /// file has no more than they need, and what was not committed is committed. A crash leaves the
+    /// pairs of the last commit, or those of now.
+    ///
+    /// Returns `Err` if there are too many pairs for one batch, if it cannot allocate, or if the
+    /// disk fails. Then the store is stopped, or a crash leaves the pairs of the last commit and
+    /// the store goes on. If the store was stopped already, returns `Err` and changes nothing.
+    ///
+    /// Walks over the pairs once, writes each once, and syncs at most eight times. Allocates the
+    /// records of all pairs twice.
+    pub fn compact(&mut self, alloc: Global) -> Result<(), LogError>
+        ensures saved { OnOk result (AreClean D.is_clean self.new.saved.files →
+            HasSaved K.cmp K.seen V.seen (record_at K.value_at V.value_at) self.new.saved self.old.pairs) }
+        ensures leaves { OnOk result (AreClean D.is_clean self.new.saved.files →
+            Leave K.cmp K.seen V.seen (record_at K.value_at V.value_at) (K.kind_number, V.kind_number) D.may_leave self.new.saved.files self.old.pairs) }
+        ensures runs { OnOk result (self.new.saved.stopped ≡ false) }
+
+        // A crash leaves the pairs of the last commit, or those of now.
+        ensures crash { AreClean D.is_clean self.new.saved.files → self.old.saved.stopped ≡ false → (durable : List (K × V)) →
+            HasSaved K.cmp K.seen V.seen (record_at K.value_at V.value_at) self.old.saved durable → (left : Held) → MayHold D.may_leave self.new.saved.files left →
+            StandFor K.cmp K.seen V.seen (record_at K.value_at V.value_at) (K.kind_number, V.kind_number) left durable
+            ⊎ StandFor K.cmp K.seen V.seen (record_at K.value_at V.value_at) (K.kind_number, V.kind_number) left self.old.pairs }
+
+        // After an error the store is stopped, or a crash leaves the pairs of the last commit.
+        ensures refused { OnErr result ((self.new.saved.stopped ≡ true) ⊎ (AreClean D.is_clean self.new.saved.files → (durable : List (K × V)) →
+            HasSaved K.cmp K.seen V.seen (record_at K.value_at V.value_at) self.old.saved durable →
+            HasSaved K.cmp K.seen V.seen (record_at K.value_at V.value_at) self.new.saved durable
+            × Leave K.cmp K.seen V.seen (record_at K.value_at V.value_at) (K.kind_number, V.kind_number) D.may_leave self.new.saved.files durable)) }
+        ensures cause { IfErr result (λ e. CausedBy e (Unit {0}) (self.new ≡ self.old)) }
+        ensures stopped { self.old.saved.stopped ≡ true → IsErrOf result LogError.Stopped × (self.new ≡ self.old) }
+        ensures pairs { self.new.pairs ≡ self.old.pairs }
+        ensures turned { OnOk result (self.new.saved.head ≡ next_head self.old.saved.head) }
+        ensures same { OnErr result (self.new.saved.head ≡ self.old.saved.head) }
+        ensures clean { AreClean D.is_clean self.new.saved.files → AreClean D.is_clean self.old.saved.files }
+    {
+        if self.log.is_stopped() {
+            return Err(LogError::Stopped);
+        }
+        let text = all_records(alloc, &self.index)?;
+        match self.log.rewrite(&text) {
+            Ok(()) => {
+                self.batch.clear();
+                Ok(())
+            }
+            Err(error) => Err(error),
+        }
+    }
+
+    /// Reads the file that counts again, and tests its head and each seal. Returns how many bytes
+    /// were tested.
+    ///
+    /// Returns `Err` if the file is damaged, if it can't be read, if it cannot allocate, or if the
+    /// store is stopped. The pairs stay as they are. Allocates the length of the file.
+    pub fn verify(&mut self) -> Result<usize, OpenError>
+        ensures sound { IfErr result (λ e. Refuses e → AreClean D.is_clean self.new.saved.files → ⊥) }
+        ensures pairs { self.new.pairs ≡ self.old.pairs }
+        ensures head { self.new.saved.head ≡ self.old.saved.head }
+        ensures texts { self.new.saved.texts ≡ self.old.saved.texts }
+        ensures stopped { self.new.saved.stopped ≡ self.old.saved.stopped }
+        ensures no_more { (left : Held) → MayHold D.may_leave self.new.saved.files left → MayHold D.may_leave self.old.saved.files left }
+        ensures clean { AreClean D.is_clean self.new.saved.files → AreClean D.is_clean self.old.saved.files }
+    {
+        match self.log.verify() {
+            Ok(end) => Ok(end),
+            Err(error) => Err(OpenError::Log(error)),
+        }
+    }
+
+    /// Returns how many bytes the records have that were not committed. Runs in constant time.
+    pub fn pending(&self) -> usize
+        ensures { result ≡ 0 → AreClean D.is_clean self.now.saved.files → self.now.saved.stopped ≡ false →
+            HasSaved K.cmp K.seen V.seen (record_at K.value_at V.value_at) self.now.saved self.now.pairs }
+    {
+        self.batch.len()
     }
 
     /// Forgets the writes since the last commit: the pairs are those of the last commit again.
@@ -240,9 +324,9 @@ impl<K: StoreKey, V: Encode, D: Disk> TreeStore<K, V, D> {
         self.log.is_stopped()
     }
 
-    /// Returns how many bytes of the file are in use. Runs in constant time.
+    /// Returns how many bytes of the file that counts are in use. Runs in constant time.
     pub fn size(&self) -> usize
-        ensures { AreClean D.is_clean self.now.saved.files → self.now.saved.stopped ≡ false → result ≡ used_in (held_in D.seen self.now.saved.files) }
+        ensures { AreClean D.is_clean self.now.saved.files → self.now.saved.stopped ≡ false → AreUsed (held_in D.seen self.now.saved.files) result }
     {
         self.log.end()
     }
@@ -254,6 +338,6 @@ impl<K: StoreKey, V: Encode, D: Disk> TreeStore<K, V, D> {
         let TreeStore { index, log, batch } = self;
         drop(index);
         drop(batch);
-        Files::of(log)
+        log.into_files()
     }
 }

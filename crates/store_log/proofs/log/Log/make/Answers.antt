@@ -2,7 +2,7 @@ use Rattle.std.proofs.Common.{◌≡◌, ◌-◌, ◌∷◌, ◌++◌, [], ℕ, 
 use Rattle.store_frames.specs.Frame.{frame}
 use Rattle.store_frames.specs.Seal.{sealed}
 use Rattle.store_log.specs.Head.{head_text}
-use Rattle.store_log.specs.Log.{HasHead, LeavesTexts}
+use Rattle.store_log.specs.Log.{HasHead, IsBlank, LeavesTexts}
 use Rattle.store_log.specs.declared.frame_file.FrameFile.{FrameFile}
 use Rattle.store_log.proofs.Heads.{head_frame_has}
 use Rattle.store_log.proofs.Texts.{alone_kept, alone_texts, kept_leaves}
@@ -37,3 +37,8 @@ returns-in-Ok-write_head-clause-empty g c clean =
     let kept = alone_kept seen may_leave head (head_text head) c.in-Ok-head_frame.ensures.spells (omega arith) file refl end whole c.in-Ok-write_head.ensures.durable in
     let none = alone_texts seen may_leave head (head_text head) c.in-Ok-head_frame.ensures.spells (omega arith) file refl end whole c.in-Ok-write_head.ensures.durable in
     (none, subst (λ (t : List (List ℕ)). LeavesTexts head t (may_leave c.write_head.new.disk)) none (kept_leaves seen may_leave head file kept))
+
+pub returns-clause-kept : goal.returns-clause-kept
+returns-clause-kept g c clean occupied =
+    let read : c.deref.result.now ≡ g.D.Disk.seen c.args.disk = c.deref.ensures.value ∙ c.in-Ok.ensures.bytes (c.write_head.ensures.clean clean) in
+    absurd (occupied (subst IsBlank read (c.is_blank.ensures.0 c.if-not-is_blank.false)))

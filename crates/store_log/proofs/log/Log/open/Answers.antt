@@ -87,3 +87,6 @@ returns-in-Err-settled-clause-crash g c clean head texts h =
 
 pub returns-in-Ok-settled-clause-clean : goal.returns-in-Ok-settled-clause-clean
 returns-in-Ok-settled-clause-clean g c clean = c.read_all.ensures.clean (c.in-Ok-settled.ensures.clean clean)
+
+pub returns-in-Err-settled-clause-clean_err : goal.returns-in-Err-settled-clause-clean_err
+returns-in-Err-settled-clause-clean_err g c clean = c.read_all.ensures.clean (c.in-Err-settled.ensures.clean_err clean)

@@ -4,7 +4,7 @@ use Rattle.store_codec.specs.Records.{record_at}
 use Rattle.store_log.specs.Head.{HasKinds}
 use Rattle.store_log.specs.Log.{Contents, HasTexts, LeavesTexts}
 use Rattle.tree_store.specs.Changes.{HaveRecords, Leads}
-use Rattle.tree_store.specs.Store.{HasSaved, Leave, StandFor, store_of}
+use Rattle.tree_store.specs.Store.{HasSaved, Leave, StandFor, new_head, store_of}
 use Rattle.tree_store.proofs.Noted.{just_saved}
 use Rattle.tree_store.proofs.Saved.{leave}
 use Rattle.tree_node.proofs.Common.{fits}
@@ -38,7 +38,14 @@ returns-in-Ok-clause-saved g c clean = rw ((c.in-Ok.ensures.empty clean).0) refl
 pub returns-in-Ok-clause-leaves : goal.returns-in-Ok-clause-leaves
 returns-in-Ok-clause-leaves g c clean left may =
     let same = c.in-Ok.ensures.made.0 in
-    record { head = c.in-Ok.log.head; are = (ap (λ h. h.kind_of_keys) same ∙ c.kind.ensures, ap (λ h. h.kind_of_values) same ∙ c.kind-2.ensures); texts = []; has = rw same ((c.in-Ok.ensures.empty clean).1 left.first may); leads = refl }
+    record { head = c.in-Ok.log.head; are = (ap (λ h. h.kind_of_keys) same ∙ c.kind.ensures, ap (λ h. h.kind_of_values) same ∙ c.kind-2.ensures); texts = []; has = rw same ((c.in-Ok.ensures.empty clean).1 left may); leads = refl }
 
 pub returns-in-Err-clause-crash : goal.returns-in-Err-clause-crash
-returns-in-Err-clause-crash g c clean blank left may = c.in-Err.ensures.crash clean blank left.first may
+returns-in-Err-clause-crash g c clean blank left may = c.in-Err.ensures.crash clean blank left may
+
+pub returns-in-Ok-clause-head : goal.returns-in-Ok-clause-head
+returns-in-Ok-clause-head g c =
+    c.in-Ok.ensures.made.0 ∙ ap (λ (k : ℕ). new_head k c.kind-2.result c.args.key) c.kind.ensures ∙ ap (λ (k : ℕ). new_head g.K.Encode.kind_number k c.args.key) c.kind-2.ensures
+
+pub returns-in-Err-clause-kept : goal.returns-in-Err-clause-kept
+returns-in-Err-clause-kept g c = c.in-Err.ensures.kept
