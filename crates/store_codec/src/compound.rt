@@ -22,10 +22,13 @@ impl<A: Encode, B: Encode> Encode for (A, B) {
 
     ghost value_at = { pair_at A.value_at B.value_at };
 
-    ghost kind_number = { (A.kind_number * 65599 + B.kind_number * 257 + 1024) % 2 ^ 32 };
+    ghost kind_number = { ((A.kind_number * 2654435761 + 1024) % 4294967291 + B.kind_number * 65599) % 2 ^ 32 };
 
+    // The first part is reduced by a prime of its own. By sums alone, `((A, B), (C, D))` and
+    // `((A, C), (B, D))` would have one number.
     fn kind() -> u32 {
-        let mixed = u64::from(A::kind()) * 65599 + u64::from(B::kind()) * 257 + 1024;
+        let first = (u64::from(A::kind()) * 2654435761 + 1024) % 4294967291;
+        let mixed = first + u64::from(B::kind()) * 65599;
         (mixed % (1 << 32)) as u32
     }
 
@@ -61,11 +64,11 @@ impl<V: Encode> Encode for Option<V> {
 
     ghost value_at = { option_at V.value_at };
 
-    ghost kind_number = { (V.kind_number * 65599 + 2048) % 2 ^ 32 };
+    ghost kind_number = { (V.kind_number * 2654435761 + 2048) % 4294967291 };
 
     fn kind() -> u32 {
-        let mixed = u64::from(V::kind()) * 65599 + 2048;
-        (mixed % (1 << 32)) as u32
+        let mixed = u64::from(V::kind()) * 2654435761 + 2048;
+        (mixed % 4294967291) as u32
     }
 
     fn push_to(&self, out: &mut Vec<u8>) -> Result<(), AllocError> {

@@ -31,13 +31,14 @@ pub trait Encode: Drop {
     /// finds the value again.
     ///
     /// Returns `Err` if it cannot allocate. A front of the bytes may be in `out` then.
+    /// Allocates only if `out` has no room.
     fn push_to(&self, out: &mut Vec<u8>) -> Result<(), AllocError>
         ensures pushed { OnOk result (out.new.items ≡ out.old.items ++ bytes_of (seen self.now)) }
         ensures refused { OnErr result ((front : List ℕ) × (out.new.items ≡ out.old.items ++ front)) }
         ensures law { OnOk result (ReadsBack value_at (bytes_of (seen self.now)) (seen self.now)) };
 
     /// Returns the value at the front, with what is behind it. Returns `Ok(None)` if no value is
-    /// there, and `Err` if it cannot allocate.
+    /// there, and `Err` if it cannot allocate. Allocates only what the value owns.
     fn take_from(alloc: Global, bytes: &[u8]) -> Result<Option<(Self, &[u8])>, AllocError>
         ensures { IfOk result (λ found. option_map (λ it. (seen it.0, it.1.now)) found ≡ value_at bytes.now) };
 }

@@ -23,7 +23,8 @@ pub enum Record<K, V> {
 
 /// Appends the record of a stored pair: the byte 1, the key and the value.
 ///
-/// Returns `Err` if it cannot allocate. A front of the record may be in `out` then.
+/// Returns `Err` if it cannot allocate. A front of the record may be in `out` then. Allocates only
+/// if `out` has no room.
 pub fn push_put<K: Encode, V: Encode>(
     out: &mut Vec<u8>,
     key: &K,
@@ -40,7 +41,8 @@ pub fn push_put<K: Encode, V: Encode>(
 
 /// Appends the record of a removed pair: the byte 2 and the key.
 ///
-/// Returns `Err` if it cannot allocate. A front of the record may be in `out` then.
+/// Returns `Err` if it cannot allocate. A front of the record may be in `out` then. Allocates only
+/// if `out` has no room.
 pub fn push_remove<K: Encode>(out: &mut Vec<u8>, key: &K) -> Result<(), AllocError>
     ensures pushed { OnOk result (out.new.items ≡ out.old.items ++ 2 ∷ K.bytes_of (K.seen key.now)) }
     ensures refused { OnErr result ((front : List ℕ) × (out.new.items ≡ out.old.items ++ front)) }
@@ -53,7 +55,8 @@ pub fn push_remove<K: Encode>(out: &mut Vec<u8>, key: &K) -> Result<(), AllocErr
 /// Appends the record of a removed range: the byte 3 and both bounds. A bound is the byte 0, or 1
 /// and a key that is included, or 2 and one that isn't.
 ///
-/// Returns `Err` if it cannot allocate. A front of the record may be in `out` then.
+/// Returns `Err` if it cannot allocate. A front of the record may be in `out` then. Allocates only
+/// if `out` has no room.
 pub fn push_cut<K: Encode>(
     out: &mut Vec<u8>,
     low: Bound<&K>,
@@ -70,7 +73,8 @@ pub fn push_cut<K: Encode>(
 
 /// Appends the record of a removal of all pairs: the byte 4.
 ///
-/// Returns `Err` if it cannot allocate. Then `out` is as it was.
+/// Returns `Err` if it cannot allocate. Then `out` is as it was. Allocates only if `out` has no
+/// room.
 pub fn push_clear(out: &mut Vec<u8>) -> Result<(), AllocError>
     ensures pushed { OnOk result (out.new.items ≡ out.old.items ++ 4 ∷ []) }
     ensures refused { OnErr result (out.new.items ≡ out.old.items) }
@@ -102,7 +106,7 @@ fn push_bound<K: Encode>(out: &mut Vec<u8>, bound: Bound<&K>) -> Result<(), Allo
 }
 
 /// Returns the record at the front, with what is behind it. Returns `Ok(None)` if no record is
-/// there, and `Err` if it cannot allocate.
+/// there, and `Err` if it cannot allocate. Allocates only what the key and the value own.
 pub fn next_record<K: Encode, V: Encode>(
     alloc: Global,
     bytes: &[u8],
