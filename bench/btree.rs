@@ -51,11 +51,12 @@ enum Spelling {
 use Spelling::{Digits, Path, Word};
 
 // The rows of strings, of keys of text and of keys of bytes are the same here, and so are those of batches.
-const ALL: [(Workload, &str); 38] = [
+const ALL: [(Workload, &str); 40] = [
     (Workload::InsertAscending, "insert_ascending"),
     (Workload::AppendAscending, "append_ascending"),
     (Workload::InsertRandom, "insert_random"),
     (Workload::UpsertRandom, "upsert_random"),
+    (Workload::UpsertRandom, "upsert_batch"),
     (Workload::ReplaceRandom, "replace_random"),
     (Workload::ModifyRandom, "modify_random"),
     (Workload::PeekHit, "peek_hit"),
@@ -73,6 +74,7 @@ const ALL: [(Workload, &str); 38] = [
     (Workload::WalkBackRandom, "walk_back_random"),
     (Workload::RangesOf100, "ranges_of_100"),
     (Workload::Nearest, "nearest"),
+    (Workload::Nearest, "nearest_batch"),
     (Workload::CloneAndDrop, "clone_and_drop"),
     (Workload::InsertText(Digits), "insert_string"),
     (Workload::PeekText(Digits), "peek_string"),

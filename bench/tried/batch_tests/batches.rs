@@ -1,9 +1,10 @@
 //! Look-ups of many keys, compared with a plain rule.
 use std::alloc::{AllocError, Global};
 use std::process::Abort;
+use crate::stored::{fill, keys_of, stored_at};
 use tree_batches::{
-    contains_each, contains_each_lent, peek_each, peek_each_lent, peek_entry_each,
-    peek_entry_each_lent,
+    at_or_above_each, at_or_below_each, contains_each, contains_each_lent, peek_each,
+    peek_each_lent, peek_entry_each, peek_entry_each_lent,
 };
 use test_support::refusals::succeeds;
 use tree_index::{SmallTreeIndex, TreeIndex, TreeIndexOf};
@@ -14,40 +15,6 @@ static STORED: [u64; 7] = [0, 1, 7, 8, 15, 16, 400];
 
 // How many keys are asked for: none, about one batch, two, and three with one key behind them.
 static ASKED: [usize; 8] = [0, 1, 7, 8, 9, 16, 17, 25];
-
-// Keys to ask for: stored ones, absent ones between them and behind them, in no order, some twice.
-fn keys_of(alloc: Global, count: usize, stored: u64) -> Result<Vec<u64>, AllocError> {
-    let mut keys = Vec::with_capacity(alloc, count)?;
-    let numbers = stored.wrapping_mul(2).wrapping_add(3);
-    for place in 0..count as u64 {
-        let number = place.wrapping_mul(place).wrapping_mul(1_000_003);
-        keys.push(number.checked_rem(numbers).unwrap_or(0))?;
-    }
-    Ok(keys)
-}
-
-// The even numbers below twice the count are stored, each with the next number as its value.
-fn stored_at(key: u64, stored: u64) -> Option<u64> {
-    if key & 1 == 0 && key < stored.wrapping_mul(2) {
-        Some(key.wrapping_add(1))
-    } else {
-        None
-    }
-}
-
-fn fill<const LEN: usize>(
-    index: &mut TreeIndexOf<u64, u64, LEN>,
-    stored: u64,
-) -> Result<(), AllocError> {
-    index.clear();
-    for number in 0..stored {
-        let key = number.wrapping_mul(2);
-        if index.insert_sync(key, key.wrapping_add(1)).is_err() {
-            return Err(AllocError);
-        }
-    }
-    Ok(())
-}
 
 // Asks each of the three calls for the same keys.
 fn answers_as_stored<const LEN: usize>(
@@ -79,6 +46,47 @@ fn answers_as_stored<const LEN: usize>(
     values.next().is_none() && entries.next().is_none() && presences.next().is_none()
 }
 
+// The stored pair with the largest key up to this one.
+fn stored_below(key: u64, stored: u64) -> Option<(u64, u64)> {
+    let last = stored.checked_sub(1)?.wrapping_mul(2);
+    let below = (key & !1).min(last);
+    Some((below, below.wrapping_add(1)))
+}
+
+// The stored pair with the least key from this one on.
+fn stored_above(key: u64, stored: u64) -> Option<(u64, u64)> {
+    let above = key.wrapping_add(1) & !1;
+    Some((above, stored_at(above, stored)?))
+}
+
+// Asks both calls for the nearest pairs of the same keys.
+fn nearest_as_stored<const LEN: usize>(
+    index: &TreeIndexOf<u64, u64, LEN>,
+    keys: &[u64],
+    stored: u64,
+) -> bool {
+    let mut below = at_or_below_each(index, keys);
+    let mut above = at_or_above_each(index, keys);
+    let mut left = keys.len();
+    for key in keys {
+        let lengths = below.len() == left && above.len() == left;
+        let lower = below
+            .next()
+            .map(|found| found.map(|(stored, value)| (*stored, *value)));
+        let upper = above
+            .next()
+            .map(|found| found.map(|(stored, value)| (*stored, *value)));
+        if !lengths || lower != Some(stored_below(*key, stored)) {
+            return false;
+        }
+        if upper != Some(stored_above(*key, stored)) {
+            return false;
+        }
+        left = left.wrapping_sub(1);
+    }
+    below.next().is_none() && above.next().is_none()
+}
+
 fn expect_answers<const LEN: usize>(
     rt: &impl Abort,
     alloc: Global,
@@ -89,6 +97,7 @@ fn expect_answers<const LEN: usize>(
         for count in &ASKED {
             let keys = keys_of(alloc, *count, *stored)?;
             assert!(rt; answers_as_stored(index, &keys, *stored));
+            assert!(rt; nearest_as_stored(index, &keys, *stored));
         }
     }
     Ok(())
@@ -120,7 +129,33 @@ fn emptied_steps(rt: &impl Abort, alloc: Global) -> Result<(), AllocError> {
     index.retain_sync(|_, _| false);
     let keys = keys_of(alloc, 25, 226)?;
     assert!(rt; peek_each(&index, &keys).all(|found| found.is_none()));
+    assert!(rt; at_or_below_each(&index, &keys).all(|found| found.is_none()));
+    assert!(rt; at_or_above_each(&index, &keys).all(|found| found.is_none()));
     Ok(())
+}
+
+// Takes out the pairs of the middle leaves, so that the nearest ones are some leaves away.
+fn gap_steps(rt: &impl Abort, alloc: Global) -> Result<(), AllocError> {
+    let mut index: SmallTreeIndex<u64, u64> = TreeIndexOf::new(alloc);
+    fill(&mut index, 226)?;
+    index.retain_sync(|key, _| *key < 20 || *key > 400);
+    let keys = [10u64, 19, 20, 21, 200, 399, 400, 401, 402];
+    let mut below = at_or_below_each(&index, &keys);
+    for expected in [10u64, 18, 18, 18, 18, 18, 18, 18, 402] {
+        let found = below.next().map(|found| found.map(|(key, _)| *key));
+        assert!(rt; found == Some(Some(expected)));
+    }
+    let mut above = at_or_above_each(&index, &keys);
+    for expected in [10u64, 402, 402, 402, 402, 402, 402, 402, 402] {
+        let found = above.next().map(|found| found.map(|(key, _)| *key));
+        assert!(rt; found == Some(Some(expected)));
+    }
+    Ok(())
+}
+
+#[test]
+fn the_nearest_pairs_are_beyond_a_gap(rt: HostRuntime) {
+    assert!(rt; succeeds(rt.alloc(), || gap_steps(&rt, rt.alloc())));
 }
 
 #[test]

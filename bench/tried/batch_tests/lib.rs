@@ -1,5 +1,11 @@
-//! Tests of look-ups of many keys, whose clauses say what they answer.
+//! Tests of look-ups and writes of many keys, whose clauses say what they answer.
 #![tactic(auto)]
 
 #[cfg(test)]
 mod batches;
+
+#[cfg(test)]
+mod stored;
+
+#[cfg(test)]
+mod writes;

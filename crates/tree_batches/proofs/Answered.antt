@@ -1,5 +1,5 @@
 -- What a key's leaf says of the whole tree.
-use Rattle.std.proofs.Common.{◌≡◌, ℕ, List, Option, None, Some, IsSome, map, refl, sym, ◌∙◌, arith, Ordering}
+use Rattle.std.proofs.Common.{◌≡◌, ℕ, List, [], Option, None, Some, IsSome, map, refl, sym, ◌∙◌, arith, Ordering}
 use Rattle.std.proofs.lemmas.Simd.{map-map}
 use Rattle.std.specs.Borrow.{Bor}
 use Rattle.tree_batches.specs.Batches.{HasFound, IsEmpty, LeafUnder}
@@ -12,11 +12,14 @@ use Rattle.tree_node.specs.declared.node.Root.{Root}
 use Rattle.tree_node.proofs.Found.{found_in_leaf}
 use Rattle.tree_node.proofs.Levels.{retired_walk}
 
+pub none_under : {K V : Type 0} {LEN : ℕ} (cmp : K → K → Ordering) (a : TreeArenas K V LEN) (key : K) (root : Option Root) → IsTop cmp a root → LeafUnder cmp a root key None → walk_under a root ≡ []
+none_under cmp a key None top none = refl
+none_under cmp a key (Some root) top retired = retired_walk a root.id root.level top.0 retired
+
 module _ {K V : Type 0} {LEN : ℕ} {cmp : K → K → Ordering} (o : IsTotalOrder cmp) (a : TreeArenas K V LEN) (key : K) where
   -- without a leaf there is no pair
   pub absent_under : (root : Option Root) → IsTop cmp a root → LeafUnder cmp a root key None → IsAbsent cmp (walk_under a root) key
-  absent_under None top none = refl
-  absent_under (Some root) top retired = rw (retired_walk a root.id root.level top.0 retired) refl
+  absent_under root top none = rw (none_under cmp a key root top none) refl
 
   -- a leaf has the pair that the tree has
   pub found_under : (root : Option Root) (leaf : ℕ) → IsTop cmp a root → LeafUnder cmp a root key (Some leaf)

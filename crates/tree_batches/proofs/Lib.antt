@@ -1,3 +1,5 @@
 mod Answered
 mod Descending
+mod Neighbours
 mod Places
+mod Writing

@@ -50,9 +50,9 @@ module _ {Q K V : Type 0} {LEN : ℕ} (key : Q → K) (cmp : K → K → Orderin
     pub long : length found ≡ 8
     pub each : HaveLeaves root keys (length keys) found
 
--- what is answered for a key that is lent: what is shown of its pair
-abbrev pub answer_for : {Q K V Y : Type 0} → (Option (K × V) → Y) → (Q → K) → (K → K → Ordering) → List (K × V) → Q → Y
-answer_for shown key cmp pairs lent = shown (pair_at cmp pairs (key lent))
+-- what is answered for a key that is lent: what the pairs show for it
+abbrev pub answer_for : {Q K V Y : Type 0} → ((K → K → Ordering) → List (K × V) → K → Y) → (Q → K) → (K → K → Ordering) → List (K × V) → Q → Y
+answer_for shown key cmp pairs lent = shown cmp pairs (key lent)
 
 module _ {Q X Y : Type 0} (seen : X → Y) (answer : Q → Y) where
   -- the answers for the keys up to a place

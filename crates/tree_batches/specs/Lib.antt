@@ -1,1 +1,3 @@
 pub mod Batches
+pub mod Nearest
+pub mod Writes

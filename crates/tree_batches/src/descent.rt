@@ -2,7 +2,7 @@
 ghost use Rattle.std.specs.Prelude.{◌≡◌, ◌≤◌, length, replicate, None, Some};
 ghost use Rattle.slab.specs.Slab.{ContainsKey, get};
 ghost use Rattle.tree_batches.specs.Batches.{LeavesUnder, child_or_itself, leaf_of};
-ghost use Rattle.tree_node.specs.Whole.{IsTop};
+ghost use Rattle.tree_node.specs.Whole.{IsTop, IsTree};
 
 use crate::batch::BATCH;
 use crate::lent::{Asked, Lent};
@@ -18,7 +18,7 @@ pub(crate) fn leaves_of<Q: Lent<K>, K: Ord + Drop, V: Drop, const LEN: usize>(
     keys: &[Q],
     leaves: &mut [Option<LeafId>],
 )
-    requires top { IsTop K.cmp arenas.now root.now }
+    requires tree { IsTree K.cmp arenas.now root.now }
     requires few { length keys.now ≤ 8 }
     requires none { leaves.old ≡ replicate 8 None }
     ensures { LeavesUnder Q.key K.cmp arenas.now root.now keys.now leaves.new }

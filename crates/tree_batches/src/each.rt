@@ -4,9 +4,10 @@ ghost use Rattle.std.specs.Iterator.{at_most};
 ghost use Rattle.std.specs.Map.Iter.{TakesFirst, deref, deref_pair};
 ghost use Rattle.std.specs.Option.{option_map};
 ghost use Rattle.tree_batches.specs.Batches.{entries_for, values_for};
-ghost use Rattle.tree_node.specs.Whole.{IsTop, root_at, walk_under};
+ghost use Rattle.tree_index.specs.Nearest.{at_or_above, at_or_below};
+ghost use Rattle.tree_node.specs.Whole.{IsTree, root_at, walk_under};
 
-use crate::answers::{Answers, Entries, Presence, Values};
+use crate::answers::{Answers, AtOrAbove, AtOrBelow, Entries, Presence, Values};
 use crate::batch::Batch;
 use crate::batched::Batched;
 use crate::filling::take_next;
@@ -23,7 +24,7 @@ use tree_node::node::{ArenasOf, Root};
 /// Contracts see the list of the answers that are still to come. A batch of eight keys is looked up
 /// when the first of them is asked for.
 #[derive(Drop)]
-pub struct EachOver<'t, 'k, W: Answers<'t, K, V>, Q: Lent<K>, K: Ord, V, A: Batched<K, V>> {
+pub struct EachOver<'t, 'k, W: Answers<'t, Q, K, V>, Q: Lent<K>, K: Ord, V, A: Batched<K, V>> {
     arenas: &'t A,
     root: Option<Root>,
     keys: &'k [Q],
@@ -60,7 +61,13 @@ pub type ContainsEachOf<'t, 'k, K, V, const LEN: usize> = EachOf<'t, 'k, Presenc
 /// Whether each key of a list is present, with fifteen pairs a leaf. See [`EachOver`].
 pub type ContainsEach<'t, 'k, K, V> = ContainsEachOf<'t, 'k, K, V, 15>;
 
-impl<'t, 'k, W: Answers<'t, K, V>, Q: Lent<K>, K: Ord, V, A: Batched<K, V>> Model
+/// The pair up to each key of a list, with up to `LEN` pairs a leaf. See [`EachOver`].
+pub type AtOrBelowEachOf<'t, 'k, K, V, const LEN: usize> = EachOf<'t, 'k, AtOrBelow, K, K, V, LEN>;
+
+/// The pair from each key of a list on, with up to `LEN` pairs a leaf. See [`EachOver`].
+pub type AtOrAboveEachOf<'t, 'k, K, V, const LEN: usize> = EachOf<'t, 'k, AtOrAbove, K, K, V, LEN>;
+
+impl<'t, 'k, W: Answers<'t, Q, K, V>, Q: Lent<K>, K: Ord, V, A: Batched<K, V>> Model
     for EachOver<'t, 'k, W, Q, K, V, A> {
     ghost use Rattle.std.specs.Prelude.{List, drop, map};
     ghost use Rattle.tree_batches.specs.Batches.{HasFound, answer_for};
@@ -196,11 +203,66 @@ pub fn contains_each_lent<'t, 'k, Q: Lent<K>, K: IndexKey, V: Drop, const LEN: u
     }
 }
 
+/// Looks up each key of a list, eight at a time, and returns its pair or else the one with the next
+/// smaller key, or `None` if every key is larger.
+///
+/// Makes the comparisons of a descent for each key, and allocates nothing.
+///
+/// ```
+/// for sample in at_or_below_each(samples, times) {
+///     if sample.is_none() {
+///         return false;
+///     }
+/// }
+/// ```
+pub fn at_or_below_each<'t, 'k, K: IndexKey, V: Drop, const LEN: usize>(
+    index: &'t TreeIndexOf<K, V, LEN>,
+    keys: &'k [K],
+) -> AtOrBelowEachOf<'t, 'k, K, V, LEN>
+    ensures { result ≡ map (at_or_below K.cmp index.now.pairs) keys.now }
+{
+    let (arenas, root) = tree_of(index);
+    EachOver {
+        arenas,
+        root,
+        keys,
+        batch: Batch::empty(None),
+        stored: PhantomData,
+    }
+}
+
+/// Looks up each key of a list, eight at a time, and returns its pair or else the one with the next
+/// larger key, or `None` if every key is smaller.
+///
+/// Makes the comparisons of a descent for each key, and allocates nothing.
+///
+/// ```
+/// for ask in at_or_above_each(asks, prices) {
+///     let (price, _) = ask?;
+///     cost = cost.checked_add(*price)?;
+/// }
+/// ```
+pub fn at_or_above_each<'t, 'k, K: IndexKey, V: Drop, const LEN: usize>(
+    index: &'t TreeIndexOf<K, V, LEN>,
+    keys: &'k [K],
+) -> AtOrAboveEachOf<'t, 'k, K, V, LEN>
+    ensures { result ≡ map (at_or_above K.cmp index.now.pairs) keys.now }
+{
+    let (arenas, root) = tree_of(index);
+    EachOver {
+        arenas,
+        root,
+        keys,
+        batch: Batch::empty(None),
+        stored: PhantomData,
+    }
+}
+
 // Returns the arenas of an index, and its root.
-fn tree_of<K: IndexKey, V: Drop, const LEN: usize>(
+pub(crate) fn tree_of<K: IndexKey, V: Drop, const LEN: usize>(
     index: &TreeIndexOf<K, V, LEN>,
 ) -> (&ArenasOf<K, V, LEN>, Option<Root>)
-    ensures top { IsTop K.cmp result.0.now result.1 }
+    ensures tree { IsTree K.cmp result.0.now result.1 }
     ensures pairs { walk_under result.0.now result.1 ≡ index.now.pairs }
 {
     let (arenas, id) = index.parts();
@@ -322,3 +384,61 @@ impl<
 
 impl<'t, 'k, Q: Lent<K> + 'k, K: Ord + Drop + 't + 'k, V: Drop + 't, A: Batched<K, V>> FusedIterator
     for EachOver<'t, 'k, Presence, Q, K, V, A> {}
+
+impl<'t, 'k, K: Ord + Drop + 't + 'k, V: Drop + 't, A: Batched<K, V>> Iterator
+    for EachOver<'t, 'k, AtOrBelow, K, K, V, A> {
+    type Item = Option<(&'t K, &'t V)>;
+
+    ghost next_gives = { TakesFirst (option_map deref_pair) };
+
+    ghost remaining = { λ s. at_most (length s) };
+
+    #[inline(always)]
+    fn next(&mut self) -> Option<Option<(&'t K, &'t V)>> {
+        take_next::<AtOrBelow, K, K, V, A>(self.arenas, &self.root, self.keys, &mut self.batch)
+    }
+
+    fn size_hint(&self) -> (usize, Option<usize>) {
+        let left = self.len();
+        (left, Some(left))
+    }
+}
+
+impl<'t, 'k, K: Ord + Drop + 't + 'k, V: Drop + 't, A: Batched<K, V>> ExactSizeIterator
+    for EachOver<'t, 'k, AtOrBelow, K, K, V, A> {
+    fn len(&self) -> usize {
+        self.keys.len() - self.batch.answered()
+    }
+}
+
+impl<'t, 'k, K: Ord + Drop + 't + 'k, V: Drop + 't, A: Batched<K, V>> FusedIterator
+    for EachOver<'t, 'k, AtOrBelow, K, K, V, A> {}
+
+impl<'t, 'k, K: Ord + Drop + 't + 'k, V: Drop + 't, A: Batched<K, V>> Iterator
+    for EachOver<'t, 'k, AtOrAbove, K, K, V, A> {
+    type Item = Option<(&'t K, &'t V)>;
+
+    ghost next_gives = { TakesFirst (option_map deref_pair) };
+
+    ghost remaining = { λ s. at_most (length s) };
+
+    #[inline(always)]
+    fn next(&mut self) -> Option<Option<(&'t K, &'t V)>> {
+        take_next::<AtOrAbove, K, K, V, A>(self.arenas, &self.root, self.keys, &mut self.batch)
+    }
+
+    fn size_hint(&self) -> (usize, Option<usize>) {
+        let left = self.len();
+        (left, Some(left))
+    }
+}
+
+impl<'t, 'k, K: Ord + Drop + 't + 'k, V: Drop + 't, A: Batched<K, V>> ExactSizeIterator
+    for EachOver<'t, 'k, AtOrAbove, K, K, V, A> {
+    fn len(&self) -> usize {
+        self.keys.len() - self.batch.answered()
+    }
+}
+
+impl<'t, 'k, K: Ord + Drop + 't + 'k, V: Drop + 't, A: Batched<K, V>> FusedIterator
+    for EachOver<'t, 'k, AtOrAbove, K, K, V, A> {}

@@ -14,13 +14,13 @@ use tree_node::node::Root;
 #[inline(always)]
 pub(crate) fn take_next<
     't,
-    W: Answers<'t, K, V>,
+    W: Answers<'t, Q, K, V>,
     Q: Lent<K>,
     K: Ord + Drop + 't,
     V: Drop + 't,
     A: Batched<K, V>,
 >(arenas: &'t A, root: &Option<Root>, keys: &[Q], batch: &mut Batch<W::Answer>) -> Option<W::Answer>
-    requires top { A.is_tree arenas.now root.now }
+    requires tree { A.is_tree arenas.now root.now }
     requires kept { HasFound W.seen (answer_for W.shown Q.key K.cmp (A.pairs arenas.now root.now)) keys.now batch.old }
     ensures first { TakesFirst W.seen
         (map (answer_for W.shown Q.key K.cmp (A.pairs arenas.now root.now)) (drop batch.old.answered keys.now))
@@ -38,13 +38,13 @@ pub(crate) fn take_next<
 #[inline(always)]
 fn has_next<
     't,
-    W: Answers<'t, K, V>,
+    W: Answers<'t, Q, K, V>,
     Q: Lent<K>,
     K: Ord + Drop + 't,
     V: Drop + 't,
     A: Batched<K, V>,
 >(arenas: &'t A, root: &Option<Root>, keys: &[Q], batch: &mut Batch<W::Answer>) -> bool
-    requires top { A.is_tree arenas.now root.now }
+    requires tree { A.is_tree arenas.now root.now }
     requires kept { HasFound W.seen (answer_for W.shown Q.key K.cmp (A.pairs arenas.now root.now)) keys.now batch.old }
     ensures same { batch.new.answered ≡ batch.old.answered }
     ensures more { MatchBool result (batch.new.answered < batch.new.end) (length keys.now ≤ batch.new.answered) }
@@ -62,13 +62,15 @@ fn has_next<
 
 // Finds the answers of the next batch.
 #[inline(always)]
-fn refill<'t, W: Answers<'t, K, V>, Q: Lent<K>, K: Ord + Drop + 't, V: Drop + 't, A: Batched<K, V>>(
-    arenas: &'t A,
-    root: &Option<Root>,
-    keys: &[Q],
-    batch: &mut Batch<W::Answer>,
-)
-    requires top { A.is_tree arenas.now root.now }
+fn refill<
+    't,
+    W: Answers<'t, Q, K, V>,
+    Q: Lent<K>,
+    K: Ord + Drop + 't,
+    V: Drop + 't,
+    A: Batched<K, V>,
+>(arenas: &'t A, root: &Option<Root>, keys: &[Q], batch: &mut Batch<W::Answer>)
+    requires tree { A.is_tree arenas.now root.now }
     requires more { batch.old.answered < length keys.now }
     requires long { length batch.old.found ≡ 8 }
     ensures same { batch.new.answered ≡ batch.old.answered }
@@ -87,13 +89,13 @@ fn refill<'t, W: Answers<'t, K, V>, Q: Lent<K>, K: Ord + Drop + 't, V: Drop + 't
 #[inline(never)]
 fn find_all<
     't,
-    W: Answers<'t, K, V>,
+    W: Answers<'t, Q, K, V>,
     Q: Lent<K>,
     K: Ord + Drop + 't,
     V: Drop + 't,
     A: Batched<K, V>,
 >(arenas: &'t A, root: &Option<Root>, keys: &[Q], found: &mut [W::Answer])
-    requires top { A.is_tree arenas.now root.now }
+    requires tree { A.is_tree arenas.now root.now }
     requires few { length keys.now ≤ 8 }
     requires long { length found.old ≡ 8 }
     ensures long { length found.new ≡ 8 }
@@ -108,7 +110,7 @@ fn find_all<
 #[inline(always)]
 fn answer_all<
     't,
-    W: Answers<'t, K, V>,
+    W: Answers<'t, Q, K, V>,
     Q: Lent<K>,
     K: Ord + Drop + 't,
     V: Drop + 't,
@@ -120,7 +122,7 @@ fn answer_all<
     leaves: &[Option<LeafId>],
     found: &mut [W::Answer],
 )
-    requires top { A.is_tree arenas.now root.now }
+    requires tree { A.is_tree arenas.now root.now }
     requires few { length keys.now ≤ 8 }
     requires long { length found.old ≡ 8 }
     requires few_leaves { length leaves.now ≡ 8 }
@@ -138,15 +140,15 @@ fn answer_all<
 #[inline(never)]
 fn answer_in<
     't,
-    W: Answers<'t, K, V>,
+    W: Answers<'t, Q, K, V>,
     Q: Lent<K>,
     K: Ord + Drop + 't,
     V: Drop + 't,
     A: Batched<K, V>,
 >(arenas: &'t A, root: &Option<Root>, leaf: Option<LeafId>, key: &Q) -> W::Answer
-    requires top { A.is_tree arenas.now root.now }
+    requires tree { A.is_tree arenas.now root.now }
     requires leaf { A.is_leaf arenas.now root.now (Q.key key.now) leaf }
     ensures { W.seen result ≡ answer_for W.shown Q.key K.cmp (A.pairs arenas.now root.now) key.now }
 {
-    W::answer(arenas.entry(root, leaf, key))
+    W::answer(arenas, root, leaf, key)
 }

@@ -26,6 +26,16 @@ impl<K: Ord> Lent<K> for K {
     }
 }
 
+// A pair is looked up by its key.
+impl<K: Ord, V> Lent<K> for (K, V) {
+    ghost key = { λ pair. pair.0 };
+
+    #[inline(always)]
+    fn compare(&self, stored: &K) -> Ordering {
+        self.0.cmp(stored)
+    }
+}
+
 // The mark of `Asked`.
 pub(crate) struct ByForm;
 

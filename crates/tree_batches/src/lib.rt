@@ -15,14 +15,17 @@ mod descent;
 mod each;
 mod filling;
 mod lent;
+mod nearest;
 mod texts;
+mod writes;
 
-pub use answers::{Answers, Entries, Presence, Values};
+pub use answers::{Answers, AtOrAbove, AtOrBelow, Entries, Presence, Values};
 pub use batch::Batch;
 pub use batched::Batched;
 pub use each::{
-    ContainsEach, ContainsEachOf, EachOf, EachOver, EntryEach, EntryEachOf, PeekEach, PeekEachOf,
-    contains_each, contains_each_lent, peek_each, peek_each_lent, peek_entry_each,
-    peek_entry_each_lent,
+    AtOrAboveEachOf, AtOrBelowEachOf, ContainsEach, ContainsEachOf, EachOf, EachOver, EntryEach,
+    EntryEachOf, PeekEach, PeekEachOf, at_or_above_each, at_or_below_each, contains_each,
+    contains_each_lent, peek_each, peek_each_lent, peek_entry_each, peek_entry_each_lent,
 };
 pub use lent::Lent;
+pub use writes::upsert_each;

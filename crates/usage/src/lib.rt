@@ -7,6 +7,7 @@ ghost use Rattle.std.specs.Ordering.{nat_cmp};
 ghost use Rattle.tree_model.specs.Pairs.{pair_at};
 
 mod baskets;
+mod batches;
 mod book;
 mod events;
 mod examples;
@@ -22,6 +23,7 @@ mod stores;
 mod walks;
 
 pub use baskets::{are_counted, cost_of, count_of_all, count_of_first, first_in, has_all};
+pub use batches::{are_covered, cost_from, store_each};
 pub use book::{ask_from, best_ask, best_bid, cancel, second_ask};
 pub use events::{Stamp, last_before};
 pub use examples::{

@@ -6,7 +6,7 @@ use Rattle.tree_batches.proofs.descent.leaves_of.Goals as goal
 pub leaves_below-requires : goal.leaves_below-requires
 leaves_below-requires g c =
     let long : length c.args.leaves.now ≡ 8 = rw c.requires.none refl in
-    (search fits, (search fits, (rw c.in-Some.is at c.requires.top, (c.requires.few, long))))
+    (search fits, (search fits, ((rw c.in-Some.is at c.requires.tree).top, (c.requires.few, long))))
 
 pub returns-in-Some : goal.returns-in-Some
 returns-in-Some g c = rw c.in-Some.is c.leaves_below.ensures
