@@ -218,6 +218,14 @@ uint8_t tree_index_spare(tree_index_handle *handle);
  * memory for later pairs. */
 int tree_index_clear(tree_index_handle *handle);
 
+/* Writes the keys of the first pairs that are within both bounds to `keys`, and their values to
+ * the same places of `values`, in ascending order, as many as there are places of both. Returns
+ * how many it wrote, as tree_index_fill does. */
+size_t tree_index_fill_arrays(tree_index_handle *handle, uint8_t low_kind, uint64_t low, uint8_t high_kind, uint64_t high, uint64_t *keys, size_t keys_length, uint64_t *values, size_t values_length);
+
+/* Does what tree_index_fill_arrays does from the other end: the last pairs, in descending order. */
+size_t tree_index_fill_arrays_back(tree_index_handle *handle, uint8_t low_kind, uint64_t low, uint8_t high_kind, uint64_t high, uint64_t *keys, size_t keys_length, uint64_t *values, size_t values_length);
+
 /* Looks up each of `keys`, eight at a time. Writes the value of each to the same place of
  * `values`, and 1 to that of `found`. If a key is absent, it writes 0 to both. Answers
  * TREE_INDEX_NO_ROOM, and writes nothing, if there are fewer places of either than keys. Makes
@@ -279,6 +287,10 @@ int tree_index_insert(tree_index_handle *handle, uint64_t key, uint64_t value);
 /* Stores a pair, in place of one with an equal key. Answers TREE_INDEX_YES either way. Runs in
  * O(log n). Allocates at most a leaf, a node a level and a new root. */
 int tree_index_upsert(tree_index_handle *handle, uint64_t key, uint64_t value);
+
+/* Swaps the value of a key with the one that is passed. Answers TREE_INDEX_NO, and changes
+ * nothing, if the key is absent. Runs in O(log n). Allocates nothing. */
+int tree_index_replace(tree_index_handle *handle, uint64_t key, uint64_t *value);
 
 /* Removes the pair with a key. Answers whether there was one. Runs in O(log n). Allocates
  * nothing. */

@@ -122,6 +122,10 @@ public:
   bool insert(uint64_t key, uint64_t value) { return inside::done(tree_index_insert(owner_.get(), key, value)); }
   // Stores a pair, in place of one with an equal key.
   void upsert(uint64_t key, uint64_t value) { inside::done(tree_index_upsert(owner_.get(), key, value)); }
+  // Replaces the value of a key and returns the old one, or nothing if the key is absent.
+  std::optional<uint64_t> replace(uint64_t key, uint64_t value) {
+    return tree_index_replace(owner_.get(), key, &value) == TREE_INDEX_YES ? std::optional(value) : std::nullopt;
+  }
   // Removes the pair with a key. Returns how many there were.
   size_type erase(uint64_t key) { return tree_index_remove(owner_.get(), key) == TREE_INDEX_YES; }
   // Removes the pair with a key and returns its value.
@@ -188,10 +192,19 @@ public:
   // A walk from the first key that isn't smaller than this one, or from the first that is larger.
   iterator lower_bound(uint64_t key) const;
   iterator upper_bound(uint64_t key) const;
+  // Writes the first keys within two bounds to one vector, array or span of numbers, and their values to the same places of
+  // another; or from the last one down. Returns how many, which is all that there are if either has places left.
+  template <class Keys, class Values> size_type fill(Keys &&keys, Values &&values, bound low = {}, bound high = {}) const { return fill_by(tree_index_fill_arrays, keys, values, low, high); }
+  template <class Keys, class Values> size_type fill_back(Keys &&keys, Values &&values, bound low = {}, bound high = {}) const { return fill_by(tree_index_fill_arrays_back, keys, values, low, high); }
 
 private:
   struct closed {};
   explicit index(closed) {}
+
+  template <class Call, class Keys, class Values> size_type fill_by(Call call, Keys &keys, Values &values, bound low, bound high) const {
+    if (std::empty(keys) || std::empty(values)) return 0;
+    return call(owner_.get(), low.kind, low.key, high.kind, high.key, std::data(keys), std::size(keys), std::data(values), std::size(values));
+  }
 
   template <class Call> static std::optional<value_type> pair_by(Call call) {
     tree_index_pair pair;

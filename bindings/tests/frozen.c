@@ -86,6 +86,7 @@ static void refuses_writes(void) {
   word_of(2, key);
   WANT(tree_index_insert(&numbers, 1, 1) == TREE_INDEX_MISFIT);
   WANT(tree_index_upsert(&numbers, 2, 1) == TREE_INDEX_MISFIT);
+  WANT(tree_index_replace(&numbers, 2, &value) == TREE_INDEX_MISFIT && value == 1);
   WANT(tree_index_remove(&numbers, 2) == TREE_INDEX_MISFIT);
   WANT(tree_index_take(&numbers, 2, &value) == TREE_INDEX_MISFIT && value == 1);
   WANT(tree_index_pop_first(&numbers, &pair) == TREE_INDEX_MISFIT && tree_index_pop_last(&numbers, &pair) == TREE_INDEX_MISFIT && pair.key == 1);

@@ -11,6 +11,23 @@ static void same_pair(int answer, const tree_index_pair *pair, size_t at) {
   WANT(compare(&key, &m.keys[at]) == 0 && pair->value == m.values[at]);
 }
 
+/* Keys and values go to an array each, and the places that are left stay. */
+static void fills_arrays(uint8_t low_kind, uint64_t low, uint8_t high_kind, uint64_t high, size_t from, size_t to) {
+  for (int back = 0; back < 2; back++) {
+    uint64_t keys[50], values[50];
+    for (size_t at = 0; at < 50; at++) keys[at] = values[at] = 77;
+    size_t places = below(50), others = below(2) ? places : below(50), want = to > from ? to - from : 0;
+    if (want > places) want = places;
+    if (want > others) want = others;
+    WANT((back ? tree_index_fill_arrays_back : tree_index_fill_arrays)(&index_, low_kind, low, high_kind, high, keys, places, values, others) == want);
+    for (size_t at = 0; at < want; at++) {
+      tree_index_pair pair = {keys[at], values[at]};
+      same_pair(TREE_INDEX_YES, &pair, back ? to - 1 - at : from + at);
+    }
+    for (size_t at = want; at < 50; at++) WANT(keys[at] == 77 && values[at] == 77);
+  }
+}
+
 static void fills(uint8_t low_kind, uint64_t low, uint8_t high_kind, uint64_t high) {
   tree_index_pair places[100] = {{0, 0}};
   key_of_bytes low_key = of_number(low), high_key = of_number(high);
@@ -21,6 +38,7 @@ static void fills(uint8_t low_kind, uint64_t low, uint8_t high_kind, uint64_t hi
   WANT(places[want].key == 0);
   WANT(tree_index_fill_back(&index_, low_kind, low, high_kind, high, places, room) == want);
   for (size_t at = 0; at < want; at++) same_pair(TREE_INDEX_YES, &places[at], to - 1 - at);
+  fills_arrays(low_kind, low, high_kind, high, from, to);
 }
 
 /* Look-ups of many keys, some of them the same. */
@@ -50,7 +68,7 @@ static void call(uint64_t keys) {
   size_t at = place(&m, &key);
   int is = is_at(&m, at, &key);
   tree_index_pair pair = {0, 0};
-  switch (below(17)) {
+  switch (below(18)) {
   case 0: case 1: case 2: case 3:
     WANT(tree_index_insert(&index_, number, value) == (is ? TREE_INDEX_NO : TREE_INDEX_YES));
     if (!is) put(&m, &key, value);
@@ -58,6 +76,11 @@ static void call(uint64_t keys) {
   case 4:
     WANT(tree_index_upsert(&index_, number, value) == TREE_INDEX_YES);
     put(&m, &key, value);
+    break;
+  case 16:
+    told = value;
+    WANT(tree_index_replace(&index_, number, &told) == (is ? TREE_INDEX_YES : TREE_INDEX_NO) && told == (is ? m.values[at] : value));
+    if (is) put(&m, &key, value);
     break;
   case 5:
     WANT(tree_index_remove(&index_, number) == (is ? TREE_INDEX_YES : TREE_INDEX_NO));
@@ -151,6 +174,9 @@ static void misfits(void) {
   uint8_t key[1] = {0};
   WANT(tree_index_insert(&closed, 1, 2) == TREE_INDEX_MISFIT && tree_index_peek(&closed, 1, &value) == TREE_INDEX_MISFIT && value == 5);
   WANT(tree_index_len(&closed) == 0 && tree_index_clear(&closed) == TREE_INDEX_MISFIT);
+  uint64_t number = 5;
+  WANT(tree_index_fill_arrays(&closed, 0, 0, 0, 0, &number, 1, &value, 1) == 0 && number == 5 && value == 5);
+  WANT(tree_index_replace(&closed, 1, &value) == TREE_INDEX_MISFIT && value == 5);
   tree_index_free(&closed);
   WANT(tree_index_new(&closed) == TREE_INDEX_YES && tree_index_new(&closed) == TREE_INDEX_MISFIT && tree_index_bytes_new(&closed) == TREE_INDEX_MISFIT);
   WANT(tree_index_bytes_insert(&closed, key, 1, 2) == TREE_INDEX_MISFIT && tree_index_len(&closed) == 0);

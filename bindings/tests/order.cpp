@@ -32,6 +32,13 @@ template <class Walk, class It> static void same(const Walk &walk, It at, It end
   WANT(at == end);
 }
 
+// A fill wrote as many pairs as there are and as both arrays have places for.
+template <class Array, class It> static void same_arrays(std::size_t count, const Array &keys, const Array &values, It at, It end) {
+  WANT(count <= keys.size() && count <= values.size());
+  for (std::size_t n = 0; n < count; n++, ++at) WANT(at != end && keys[n] == at->first && values[n] == at->second);
+  WANT(at == end || count == std::min(keys.size(), values.size()));
+}
+
 // What at() returns, or nothing if it throws.
 template <class Index, class Key> static std::optional<uint64_t> value_at(const Index &index, const Key &key) {
   try {
@@ -56,11 +63,15 @@ static void numbers(uint64_t keys, int calls) {
     uint64_t key = below(keys), value = chance();
     auto at = map.lower_bound(key);
     bool is = at != map.end() && at->first == key;
-    switch (below(10)) {
+    switch (below(11)) {
     case 0: case 1: case 2: WANT(index.insert(key, value) == map.emplace(key, value).second); break;
     case 3: index.upsert(key, value); map[key] = value; break;
     case 4: WANT(index.erase(key) == map.erase(key)); break;
     case 5: WANT(index.take(key) == (is ? std::optional(at->second) : std::nullopt)); map.erase(key); break;
+    case 9:
+      WANT(index.replace(key, value) == (is ? std::optional(at->second) : std::nullopt));
+      if (is) at->second = value;
+      break;
     case 6:
       WANT(index.find(key) == (is ? std::optional(at->second) : std::nullopt) && index.contains(key) == is && index.size() == map.size());
       WANT(value_at(index, key) == index.find(key));
@@ -83,6 +94,10 @@ static void numbers(uint64_t keys, int calls) {
       same(index.reversed(tree_index::bound::including(key), tree_index::bound::excluding(high)), std::make_reverse_iterator(end), std::make_reverse_iterator(at));
       same_from(index.lower_bound(key), index.end(), at, map.end());
       same_from(index.upper_bound(key), index.end(), map.upper_bound(key), map.end());
+      std::vector<uint64_t> into(below(40), 7), values(below(40), 7);
+      tree_index::bound from = tree_index::bound::including(key), to = tree_index::bound::excluding(high);
+      same_arrays(index.fill(into, values, from, to), into, values, at, end);
+      same_arrays(index.fill_back(into, values, from, to), into, values, std::make_reverse_iterator(end), std::make_reverse_iterator(at));
       break;
     }
     default:

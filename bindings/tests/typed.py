@@ -1,4 +1,5 @@
 """What the stubs of the package say. mypy reads this file, and nothing runs it: each line that is ignored must be an error."""
+from array import array
 from typing import Iterator, List, Optional, Tuple
 
 from tree_index import TreeIndex
@@ -21,10 +22,18 @@ names: TreeIndex[str, int] = TreeIndex({"one": 1})
 named: Iterator[str] = names.iprefix("o")
 before: int = names.bisect_left("p")
 places: List[Tuple[int, str]] = prices.items()[-2:]
+counts: TreeIndex[int, int] = TreeIndex({1: 2})
+both_arrays: Tuple["array[int]", "array[int]"] = counts.items_arrays(maximum=5)
+reals: "array[float]" = TreeIndex({1: 2.5}).values_array(typecode="d")
+sums: Tuple["array[int]", "array[float]"] = counts.items_arrays(typecode="d")
+numbers: "array[int]" = prices.keys_array(100)
 backwards: Iterator[str] = reversed(prices.values())
 
 prices[101:104]  # type: ignore[index]
 prices[b"x"]  # type: ignore[index]
 prices.iprefix(b"x")  # type: ignore[misc]
+sizes.keys_array()  # type: ignore[misc]
+prices.values_array()  # type: ignore[misc]
+counts.values_array(typecode="i")  # type: ignore[call-overload]
 sizes[b"x"] = "large"  # type: ignore[assignment]
 weights: TreeIndex[float, int]  # type: ignore[type-var]

@@ -14,6 +14,13 @@ static int book_of(tree_index_handle *book, const tree_index_pair *orders, size_
   return 1;
 }
 
+/* Adds an amount to the balance of an account, 0 if it has none. Returns whether there was memory. */
+static int deposit(tree_index_handle *balances, uint64_t account, uint64_t amount) {
+  uint64_t balance = 0;
+  tree_index_peek(balances, account, &balance);
+  return tree_index_upsert(balances, account, balance + amount) == TREE_INDEX_YES;
+}
+
 /* Writes the first and the last price within both bounds. Returns whether there is one. */
 static int ends_within(tree_index_handle *prices, uint64_t low, uint64_t high, uint64_t ends[2]) {
   tree_index_pair first, last;
@@ -80,7 +87,7 @@ int main(void) {
   tree_index_handle book = TREE_INDEX_CLOSED, counts = TREE_INDEX_CLOSED;
   tree_index_pair pairs[4];
   uint64_t ends[2];
-  if (!book_of(&book, orders, 4) || tree_index_new(&owners) != TREE_INDEX_YES || tree_index_bytes_new(&counts) != TREE_INDEX_YES) return 1;
+  if (!book_of(&book, orders, 4) || !deposit(&book, 104, 2) || tree_index_new(&owners) != TREE_INDEX_YES || tree_index_bytes_new(&counts) != TREE_INDEX_YES) return 1;
   size_t length = tree_index_fill(&book, TREE_INDEX_UNBOUNDED, 0, TREE_INDEX_UNBOUNDED, 0, pairs, 4);
   for (size_t at = 0; at < length; at++) printf("%" PRIu64 " at %" PRIu64 "\n", pairs[at].value, pairs[at].key);
   if (ends_within(&book, 102, 106, ends)) printf("from 102 to 106: %" PRIu64 " and %" PRIu64 "\n", ends[0], ends[1]);

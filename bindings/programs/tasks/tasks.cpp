@@ -12,6 +12,11 @@ static tree_index::index book_of(const prices &orders) {
   return tree_index::index(orders.begin(), orders.end());
 }
 
+// Adds an amount to the balance of an account, 0 if it has none.
+static void deposit(tree_index::index &balances, uint64_t account, uint64_t amount) {
+  balances.upsert(account, balances.find(account).value_or(0) + amount);
+}
+
 // Returns the first and the last price within both bounds, if there is one.
 static std::optional<std::pair<uint64_t, uint64_t>> ends_within(const tree_index::index &book, bound low, bound high) {
   auto up = book.range(low, high), down = book.reversed(low, high);
@@ -63,6 +68,7 @@ static int share() {
 
 int main() {
   tree_index::index book = book_of({{104, 1}, {101, 5}, {107, 3}, {102, 7}});
+  deposit(book, 104, 2);
   for (auto [price, quantity] : book) std::cout << quantity << " at " << price << '\n';
   if (auto ends = ends_within(book, bound::including(102), bound::including(106))) std::cout << "from 102 to 106: " << ends->first << " and " << ends->second << '\n';
   if (auto ask = ask_from(book, 103)) std::cout << "from 103 on: " << ask->second << " at " << ask->first << '\n';

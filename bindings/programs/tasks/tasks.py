@@ -11,6 +11,11 @@ def book_of(orders):
     return TreeIndex(orders)
 
 
+def deposit(balances, account, amount):
+    """Adds an amount to the balance of an account, 0 if it has none."""
+    balances[account] = balances.get(account, 0) + amount
+
+
 def ends_within(prices, low, high):
     """Returns the first and the last price within both bounds, or None if there is none."""
     first = next(prices.irange(low, high), None)
@@ -62,6 +67,7 @@ def share():
 
 def main():
     book = book_of([(104, 1), (101, 5), (107, 3), (102, 7)])
+    deposit(book, 104, 2)
     for price, quantity in book.items():
         print(f"{quantity} at {price}")
     first, last = ends_within(book, 102, 106)

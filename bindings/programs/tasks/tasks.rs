@@ -14,6 +14,12 @@ fn book_of(orders: &[(u64, u64)]) -> Result<TreeIndex, OutOfMemory> {
     Ok(book)
 }
 
+/// Adds an amount to the balance of an account, 0 if it has none.
+fn deposit(balances: &mut TreeIndex, account: u64, amount: u64) -> Result<(), OutOfMemory> {
+    let balance = balances.peek(account).unwrap_or(0);
+    balances.upsert(account, balance + amount)
+}
+
 /// Returns the first and the last price within both bounds, if there is one.
 fn ends_within(prices: &TreeIndex, bounds: impl RangeBounds<u64>) -> Option<(u64, u64)> {
     let mut offers = prices.range(bounds);
@@ -60,6 +66,7 @@ fn share() -> Result<usize, OutOfMemory> {
 
 fn main() -> Result<(), OutOfMemory> {
     let mut book = book_of(&[(104, 1), (101, 5), (107, 3), (102, 7)])?;
+    deposit(&mut book, 104, 2)?;
     for (price, quantity) in &book {
         println!("{quantity} at {price}");
     }

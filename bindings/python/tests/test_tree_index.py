@@ -126,6 +126,28 @@ def test_many_keys():
     assert refused(TypeError, TreeIndex({b"x": 1}).get_many, array.array("q", [1]))
 
 
+def test_arrays():
+    chance = random.Random(7)
+    for count in (0, 1, 63, 64, 65, 3000):
+        index = TreeIndex((n * 3 - count, n * n) for n in range(count))
+        for _ in range(40):
+            low, high = (chance.choice([None, chance.randrange(-count - 2, 2 * count + 2), 2**70, -(2**70)]) for _ in range(2))
+            ends = (chance.random() < 0.5, chance.random() < 0.5)
+            items = list(index.irange_items(low, high, ends))
+            keys, values = index.items_arrays(low, high, ends)
+            assert list(zip(keys, values)) == items and keys.typecode == values.typecode == "q"
+            assert index.keys_array(low, high, ends) == keys and index.values_array(low, high, ends, "d") == array.array("d", values)
+    ends = TreeIndex({-(2**63): -(2**63), 2**63 - 1: 2**63 - 1, 0: True})
+    assert ends.items_arrays() == (array.array("q", [-(2**63), 0, 2**63 - 1]), array.array("q", [-(2**63), 1, 2**63 - 1]))
+    mixed = TreeIndex({1: 2.5, 2: 3, 3: -1})
+    assert mixed.values_array(typecode="d") == array.array("d", [2.5, 3, -1]) and mixed.values_array(2) == array.array("q", [3, -1])
+    assert refused(TypeError, mixed.values_array) and refused(ValueError, mixed.items_arrays, None, None, (True, True), "i")
+    assert refused(OverflowError, TreeIndex({1: 2**63}).values_array) and refused(TypeError, TreeIndex({1: "x"}).items_arrays)
+    words = TreeIndex({b"x": 1})
+    assert refused(TypeError, words.keys_array) and array.array("q", words.values()) == array.array("q", [1])
+    assert mixed.keys_array() == array.array("q", [1, 2, 3]) and TreeIndex({1: "x"}).keys_array(0, 5) == array.array("q", [1])
+
+
 def test_prefixes():
     index = TreeIndex((word, n) for n, word in enumerate([b"", b"a", b"ab", b"b", b"\xff", b"\xff\xff", b"\xff\xff\x01"]))
     assert list(index.iprefix(b"a")) == [b"a", b"ab"] and list(index.iprefix(b"\xff\xff")) == [b"\xff\xff", b"\xff\xff\x01"]
@@ -287,6 +309,7 @@ class Counted:
         Counted.alive -= 1
 
 
+# pytest keeps what an assert compares until the assert ends.
 def test_references_are_counted():
     for key_of in (lambda n: n, lambda n: b"%06d" % n):
         index = TreeIndex((key_of(n), Counted()) for n in range(1000))
@@ -322,11 +345,14 @@ def test_references_of_many_keys_and_of_prefixes():
         value = index[keys[0] if index is words else 150]
         base = sys.getrefcount(value)
         told = index.get_many(keys)
-        assert told[0] is value and sys.getrefcount(value) == base + 2
+        assert told[0] is value
+        assert sys.getrefcount(value) == base + 2
         del told
         assert sys.getrefcount(value) == base
     del value, index
-    assert Counted.alive == 400 and len(words.pop_prefix(b"1")) == 100 and Counted.alive == 300
+    assert Counted.alive == 400
+    gone = len(words.pop_prefix(b"1"))
+    assert gone == 100 and Counted.alive == 300
     del numbers, words
     assert Counted.alive == 0
 

@@ -3,12 +3,14 @@ use std::fmt;
 use std::iter::FusedIterator;
 use std::ops::{Bound, RangeBounds};
 
-use crate::handle::{InsertError, OutOfMemory, Owner, Pair, kind_of};
+use crate::handle::{Handle, InsertError, OutOfMemory, Owner, Pair, kind_of};
 use crate::raw;
 
 /// How many pairs an iterator reads first. Each time it reads twice as many, up to the most.
 const FIRST_AHEAD: usize = 16;
 const MOST_AHEAD: usize = 512;
+
+type Fill = unsafe extern "C" fn(*mut Handle, u8, u64, u8, u64, *mut u64, usize, *mut u64, usize) -> usize;
 
 /// An ordered index of numbers by numbers.
 ///
@@ -61,6 +63,11 @@ impl TreeIndex {
             raw::YES => Ok(()),
             _ => Err(OutOfMemory),
         }
+    }
+
+    /// Replaces the value of a key and returns the old one, or `None` if the key is absent.
+    pub fn replace(&mut self, key: u64, mut value: u64) -> Option<u64> {
+        (unsafe { raw::tree_index_replace(self.owner.get(), key, &mut value) } == raw::YES).then_some(value)
     }
 
     /// Removes the pair with a key. Returns its value, or `None` if the key is absent.
@@ -174,12 +181,37 @@ impl TreeIndex {
         self.range(..)
     }
 
+    /// Writes the first keys within the bounds to `keys`, and their values to the same places of `values`, in ascending order.
+    /// Returns how many, which is all that there are if either slice has places left.
+    ///
+    /// ```
+    /// # use tree_index::TreeIndex;
+    /// let index: TreeIndex = (0..10).map(|key| (key, key * key)).collect();
+    /// let (mut keys, mut squares) = ([0; 4], [0; 4]);
+    /// assert_eq!(index.fill(7.., &mut keys, &mut squares), 3);
+    /// assert_eq!((keys, squares), ([7, 8, 9, 0], [49, 64, 81, 0]));
+    /// ```
+    pub fn fill(&self, bounds: impl RangeBounds<u64>, keys: &mut [u64], values: &mut [u64]) -> usize {
+        self.fill_by(raw::tree_index_fill_arrays, bounds, keys, values)
+    }
+
+    /// Does what [`fill`](TreeIndex::fill) does from the last key down.
+    pub fn fill_back(&self, bounds: impl RangeBounds<u64>, keys: &mut [u64], values: &mut [u64]) -> usize {
+        self.fill_by(raw::tree_index_fill_arrays_back, bounds, keys, values)
+    }
+
+    fn fill_by(&self, fill: Fill, bounds: impl RangeBounds<u64>, keys: &mut [u64], values: &mut [u64]) -> usize {
+        let (low_kind, low) = kind_of(bounds.start_bound().cloned());
+        let (high_kind, high) = kind_of(bounds.end_bound().cloned());
+        unsafe { fill(self.owner.get(), low_kind, low, high_kind, high, keys.as_mut_ptr(), keys.len(), values.as_mut_ptr(), values.len()) }
+    }
+
     /// Stores each pair, in place of one with an equal key. Stops at the first that is refused memory.
     pub fn try_extend(&mut self, pairs: impl IntoIterator<Item = (u64, u64)>) -> Result<(), OutOfMemory> {
         pairs.into_iter().try_for_each(|(key, value)| self.upsert(key, value))
     }
 
-    fn pair_by(&self, call: impl FnOnce(*mut crate::handle::Handle, *mut Pair) -> i32) -> Option<(u64, u64)> {
+    fn pair_by(&self, call: impl FnOnce(*mut Handle, *mut Pair) -> i32) -> Option<(u64, u64)> {
         let mut pair = Pair::default();
         (call(self.owner.get(), &mut pair) == raw::YES).then_some((pair.key, pair.value))
     }
@@ -236,6 +268,7 @@ impl Ahead {
         Ahead { places: Vec::new(), at: 0, asked: 0 }
     }
 
+    #[inline]
     fn next(&mut self) -> Option<Pair> {
         let pair = self.places.get(self.at)?;
         self.at += 1;
@@ -297,6 +330,7 @@ impl Range<'_> {
 impl Iterator for Range<'_> {
     type Item = (u64, u64);
 
+    #[inline]
     fn next(&mut self) -> Option<(u64, u64)> {
         let pair = match self.front.next() {
             Some(pair) => pair,
@@ -325,6 +359,7 @@ impl Iterator for Range<'_> {
 }
 
 impl DoubleEndedIterator for Range<'_> {
+    #[inline]
     fn next_back(&mut self) -> Option<(u64, u64)> {
         let pair = match self.back.next() {
             Some(pair) => pair,

@@ -43,6 +43,8 @@ unsafe extern "C" {
     pub fn tree_index_depth(handle: *mut Handle) -> usize;
     pub fn tree_index_spare(handle: *mut Handle) -> u8;
     pub fn tree_index_clear(handle: *mut Handle) -> i32;
+    pub fn tree_index_fill_arrays(handle: *mut Handle, low_kind: u8, low: u64, high_kind: u8, high: u64, keys: *mut u64, keys_length: usize, values: *mut u64, values_length: usize) -> usize;
+    pub fn tree_index_fill_arrays_back(handle: *mut Handle, low_kind: u8, low: u64, high_kind: u8, high: u64, keys: *mut u64, keys_length: usize, values: *mut u64, values_length: usize) -> usize;
     pub fn tree_index_peek_many(handle: *mut Handle, keys: *const u64, keys_length: usize, values: *mut u64, values_length: usize, found: *mut u8, found_length: usize) -> i32;
     pub fn tree_index_peek(handle: *mut Handle, key: u64, value: *mut u64) -> i32;
     pub fn tree_index_contains(handle: *mut Handle, key: u64) -> i32;
@@ -57,6 +59,7 @@ unsafe extern "C" {
     pub fn tree_index_new(handle: *mut Handle) -> i32;
     pub fn tree_index_insert(handle: *mut Handle, key: u64, value: u64) -> i32;
     pub fn tree_index_upsert(handle: *mut Handle, key: u64, value: u64) -> i32;
+    pub fn tree_index_replace(handle: *mut Handle, key: u64, value: *mut u64) -> i32;
     pub fn tree_index_remove(handle: *mut Handle, key: u64) -> i32;
     pub fn tree_index_take(handle: *mut Handle, key: u64, value: *mut u64) -> i32;
     pub fn tree_index_pop_first(handle: *mut Handle, pair: *mut Pair) -> i32;

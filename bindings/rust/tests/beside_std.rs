@@ -53,7 +53,8 @@ fn numbers(keys: u64, calls: usize) {
     let (mut chance, mut index, mut map) = (Chance(keys), TreeIndex::new().unwrap(), BTreeMap::new());
     for _ in 0..calls {
         let (key, value) = (chance.below(keys), chance.draw());
-        match chance.below(13) {
+        match chance.below(14) {
+            13 => assert_eq!(index.replace(key, value), map.get_mut(&key).map(|old| std::mem::replace(old, value))),
             0..=3 => match map.entry(key) {
                 std::collections::btree_map::Entry::Occupied(_) => assert_eq!(index.insert(key, value), Err(InsertError::Duplicate)),
                 std::collections::btree_map::Entry::Vacant(place) => {
@@ -82,6 +83,12 @@ fn numbers(keys: u64, calls: usize) {
                 let told = ends(&mut Chance(seed), index.range(bounds), most);
                 let want = ends(&mut Chance(seed), map.range(bounds).map(|(k, v)| (*k, *v)), most);
                 assert_eq!(told, want);
+                let (mut into, mut values) = (vec![7; most.min(90)], vec![7; seed as usize % 90]);
+                let room = into.len().min(values.len());
+                let count = index.fill(bounds, &mut into, &mut values);
+                assert!(map.range(bounds).take(room).eq(into[..count].iter().zip(&values)));
+                let count = index.fill_back(bounds, &mut into, &mut values);
+                assert!(map.range(bounds).rev().take(room).eq(into[..count].iter().zip(&values)));
             }
             _ if chance.below(30) == 0 => {
                 let (low, high) = (key, key + chance.below(keys / 5 + 1));

@@ -1,10 +1,10 @@
 -- How a loop fills places with what a walk gives.
-use Rattle.std.proofs.Common.{◌≡◌, ℕ, suc, ◌+◌, ◌<◌, ◌≤◌, List, [], ◌∷◌, ◌++◌, length, map, take, drop, refl, sym, ap, ◌∙◌, subst, append_assoc, arith, length-append, length-drop}
+use Rattle.std.proofs.Common.{◌≡◌, ℕ, suc, ◌+◌, ◌<◌, ◌≤◌, List, [], ◌∷◌, ◌++◌, length, map, min, take, drop, refl, sym, ap, ◌∙◌, subst, append_assoc, arith, length-append, length-drop}
 use Rattle.tree_model.proofs.Common.{map-append}
 use Rattle.std.proofs.lemmas.List.{length-map}
 use Rattle.std.proofs.Math.ListN.{get_or, set}
 use Rattle.std.proofs.Math.Seq.{drop-cons, set-append_seam, take-append_seam}
-use Rattle.tree_index_c.specs.Pairs.{Fills}
+use Rattle.tree_index_c.specs.Pairs.{Fills, FillsArrays, key_of, value_of}
 
 module _ {P X : Type 0} (show : P → X) (all : List P) (before : List X) where
   -- The first `at` places are filled, and these are left of all.
@@ -72,3 +72,16 @@ module _ {P X : Type 0} (show : P → X) (all : List P) (before : List X) where
 
       pub filling_next : (x : X) → x ≡ show p → Filling (at + 1) (set now at x) rest
       filling_next x shown = subst (λ (y : X). Filling (at + 1) (set now at y) rest) (sym shown) (filling_more p rest (subst (λ (l : List P). Filling at now l) is was) has_place)
+
+-- An array of keys and one of values, whose first `at` places are filled from one walk.
+module _ (all : List (ℕ × ℕ)) (keys values keys_now values_now : List ℕ) (at : ℕ) (left : List (ℕ × ℕ))
+    (of_keys : Filling key_of all keys at keys_now left) (of_values : Filling value_of all values at values_now left) where
+  both_filled : at ≡ min (min (length keys) (length values)) (length all) → FillsArrays all keys values at keys_now values_now
+  both_filled count = record { count = count; keys = filled key_of all keys at keys_now left of_keys; values = filled value_of all values at values_now left of_values }
+
+  pub both_full : (room : ℕ) → room ≡ min (length keys) (length values) → at ≡ room → FillsArrays all keys values room keys_now values_now
+  both_full room is full = subst (λ (n : ℕ). FillsArrays all keys values n keys_now values_now) full
+      (both_filled (omega (arith, is, full, of_keys.within, of_values.within, in_all key_of all keys at keys_now left of_keys)))
+
+  pub both_all : left ≡ [] → FillsArrays all keys values at keys_now values_now
+  both_all none = both_filled (omega (arith, ap length none, of_keys.within, of_values.within, in_all key_of all keys at keys_now left of_keys))

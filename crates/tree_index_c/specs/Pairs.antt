@@ -9,6 +9,13 @@ use Rattle.tree_index_c.specs.declared.pair.Pair.{Pair}
 abbrev pub pair_of : Pair → ℕ × ℕ
 pair_of pair = (pair.key, pair.value)
 
+-- the two parts of a pair
+abbrev pub key_of : ℕ × ℕ → ℕ
+key_of pair = pair.0
+
+abbrev pub value_of : ℕ × ℕ → ℕ
+value_of pair = pair.1
+
 abbrev pub as_pair : ℕ × ℕ → Pair
 as_pair pair = record { key = pair.0; value = pair.1 }
 
@@ -24,3 +31,9 @@ pairs_between cmp low high pairs = filter (λ pair. within cmp low high pair.0) 
 pub record Fills {P X : Type 0} (show : P → X) (all : List P) (before : List X) (answer : ℕ) (after : List X) : Type 0 where
   pub count : answer ≡ min (length before) (length all)
   pub filled : after ≡ map show (take answer all) ++ drop answer before
+
+-- The same of two arrays, one for keys and one for values, as many as both have places for.
+pub record FillsArrays (all : List (ℕ × ℕ)) (keys_before values_before : List ℕ) (answer : ℕ) (keys_after values_after : List ℕ) : Type 0 where
+  pub count : answer ≡ min (min (length keys_before) (length values_before)) (length all)
+  pub keys : keys_after ≡ map key_of (take answer all) ++ drop answer keys_before
+  pub values : values_after ≡ map value_of (take answer all) ++ drop answer values_before

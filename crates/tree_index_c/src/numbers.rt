@@ -3,6 +3,7 @@
 //! Each takes the index out of its handle, calls it and puts it back. Any other handle is answered
 //! with `MISFIT`.
 
+mod arrays;
 mod batches;
 mod lookups;
 mod ranges;

@@ -11,6 +11,7 @@ between -2**63 and 2**63 - 1, bytes or strs, as the first key decides. Its value
 >>> prices
 TreeIndex({104: 'b'})
 """
+from array import array
 from collections.abc import ItemsView, KeysView, MutableMapping, ValuesView
 from itertools import islice
 
@@ -107,6 +108,22 @@ class TreeIndex(Index, MutableMapping):
             if view.ndim == 1 and view.itemsize == 8 and view.format in _SIGNED + _UNSIGNED:
                 return self._get_packed(view.tobytes(), default, view.format in _SIGNED)
         return self._get_each(keys, default)
+
+    def keys_array(self, minimum=None, maximum=None, inclusive=(True, True)):
+        """The int keys from one to another, as an ``array`` of type ``q``. No object is made for a key.
+
+        ``numpy.asarray`` takes it without a copy.
+        """
+        return array("q", self._packed(minimum, maximum, inclusive, None)[0])
+
+    def values_array(self, minimum=None, maximum=None, inclusive=(True, True), typecode="q"):
+        """The values from one int key to another, as an ``array`` of type ``q`` of ints, or of type ``d`` of ints and floats."""
+        return self.items_arrays(minimum, maximum, inclusive, typecode)[1]
+
+    def items_arrays(self, minimum=None, maximum=None, inclusive=(True, True), typecode="q"):
+        """What keys_array() and values_array() give, by one walk."""
+        keys, values = self._packed(minimum, maximum, inclusive, typecode)
+        return array("q", keys), array(typecode, values)
 
     def bisect_left(self, key):
         """How many keys are smaller. Walks over them, since an index counts no places."""

@@ -1,8 +1,8 @@
+from array import array
 from collections.abc import ItemsView, Iterable, Iterator, KeysView, Mapping, MutableMapping, ValuesView
-from typing import Generic, Optional, SupportsIndex, Tuple, TypeVar, Union, overload
+from typing import Any, Generic, Literal, Optional, SupportsIndex, Tuple, TypeVar, Union, overload
 
 K = TypeVar("K", int, bytes, str)
-P = TypeVar("P", bytes, str)
 V = TypeVar("V")
 
 class _Keys(KeysView[K]):
@@ -62,10 +62,56 @@ class TreeIndex(MutableMapping[K, V], Generic[K, V]):
     def pop_range(
         self, minimum: Optional[K] = ..., maximum: Optional[K] = ..., inclusive: Tuple[bool, bool] = ...
     ) -> list[Tuple[K, V]]: ...
+    def keys_array(
+        self: TreeIndex[int, Any], minimum: Optional[int] = ..., maximum: Optional[int] = ..., inclusive: Tuple[bool, bool] = ...
+    ) -> array[int]: ...
+    @overload
+    def values_array(
+        self: TreeIndex[int, int],
+        minimum: Optional[int] = ...,
+        maximum: Optional[int] = ...,
+        inclusive: Tuple[bool, bool] = ...,
+        typecode: Literal["q"] = ...,
+    ) -> array[int]: ...
+    @overload
+    def values_array(
+        self: Union[TreeIndex[int, int], TreeIndex[int, float]],
+        minimum: Optional[int] = ...,
+        maximum: Optional[int] = ...,
+        inclusive: Tuple[bool, bool] = ...,
+        *,
+        typecode: Literal["d"],
+    ) -> array[float]: ...
+    @overload
+    def items_arrays(
+        self: TreeIndex[int, int],
+        minimum: Optional[int] = ...,
+        maximum: Optional[int] = ...,
+        inclusive: Tuple[bool, bool] = ...,
+        typecode: Literal["q"] = ...,
+    ) -> Tuple[array[int], array[int]]: ...
+    @overload
+    def items_arrays(
+        self: Union[TreeIndex[int, int], TreeIndex[int, float]],
+        minimum: Optional[int] = ...,
+        maximum: Optional[int] = ...,
+        inclusive: Tuple[bool, bool] = ...,
+        *,
+        typecode: Literal["d"],
+    ) -> Tuple[array[int], array[float]]: ...
     def bisect_left(self, key: K) -> int: ...
     def bisect_right(self, key: K) -> int: ...
-    def iprefix(self: TreeIndex[P, V], prefix: P, reverse: bool = ...) -> Iterator[P]: ...
-    def iprefix_items(self: TreeIndex[P, V], prefix: P, reverse: bool = ...) -> Iterator[Tuple[P, V]]: ...
-    def pop_prefix(self: TreeIndex[P, V], prefix: P) -> list[Tuple[P, V]]: ...
+    @overload
+    def iprefix(self: TreeIndex[bytes, V], prefix: bytes, reverse: bool = ...) -> Iterator[bytes]: ...
+    @overload
+    def iprefix(self: TreeIndex[str, V], prefix: str, reverse: bool = ...) -> Iterator[str]: ...
+    @overload
+    def iprefix_items(self: TreeIndex[bytes, V], prefix: bytes, reverse: bool = ...) -> Iterator[Tuple[bytes, V]]: ...
+    @overload
+    def iprefix_items(self: TreeIndex[str, V], prefix: str, reverse: bool = ...) -> Iterator[Tuple[str, V]]: ...
+    @overload
+    def pop_prefix(self: TreeIndex[bytes, V], prefix: bytes) -> list[Tuple[bytes, V]]: ...
+    @overload
+    def pop_prefix(self: TreeIndex[str, V], prefix: str) -> list[Tuple[str, V]]: ...
     def at_or_below(self, key: K) -> Optional[Tuple[K, V]]: ...
     def at_or_above(self, key: K) -> Optional[Tuple[K, V]]: ...

@@ -143,9 +143,16 @@ static int insert(Index *self, const Key *key, PyObject *item) {
                               : tree_index_bytes_insert(&self->handle, key->bytes, (size_t)key->length, stored_of(item));
 }
 
-static int upsert(Index *self, const Key *key, PyObject *item) {
-  return key->kind == NUMBERS ? tree_index_upsert(&self->handle, key->number, stored_of(item))
-                              : tree_index_bytes_upsert(&self->handle, key->bytes, (size_t)key->length, stored_of(item));
+/* Stores an item in place of another, which it gives as well, if there is one. */
+static int upsert(Index *self, const Key *key, PyObject *item, uint64_t *was) {
+  if (key->kind == NUMBERS) {
+    *was = stored_of(item);
+    if (tree_index_replace(&self->handle, key->number, was) == TREE_INDEX_YES) return TREE_INDEX_YES;
+  } else if (peek(self, key, was) == TREE_INDEX_YES) {
+    return tree_index_bytes_upsert(&self->handle, key->bytes, (size_t)key->length, stored_of(item));
+  }
+  *was = 0;
+  return insert(self, key, item);
 }
 
 static int take(Index *self, const Key *key, uint64_t *stored) {
@@ -179,8 +186,7 @@ static int store(Index *self, PyObject *name, PyObject *value) {
   int answer = TREE_INDEX_MISFIT;
   if (item && open_for(self, key.kind) == 0) {
     self->writes++;
-    /* The old item must be known before it is replaced. */
-    answer = peek(self, &key, &was) == TREE_INDEX_YES ? upsert(self, &key, item) : insert(self, &key, item);
+    answer = upsert(self, &key, item, &was);
     if (answer == TREE_INDEX_NO_MEMORY) PyErr_NoMemory();
   }
   let_go(&key);
@@ -717,6 +723,62 @@ static PyObject *index_get_each(PyObject *object, PyObject *args) {
   return values;
 }
 
+/* ---- keys and values as two arrays */
+
+/* Puts a number of the type of an array, `q` or `d`, in place of each item. Returns -1 with an exception if a value isn't
+ * one. Runs no Python code. */
+static int unpack(uint64_t *stored, size_t count, char type) {
+  for (size_t at = 0; at < count; at++) {
+    if (at + 2 * SOON < count) ask_memory_for((PyVarObject *)item_of(stored[at + 2 * SOON]) + 1);
+    if (at + SOON < count) ask_memory_for(value_in(item_of(stored[at + SOON])));
+    PyObject *value = value_in(item_of(stored[at]));
+    if (!PyLong_Check(value) && !(type == 'd' && PyFloat_Check(value))) {
+      PyErr_Format(PyExc_TypeError, "an array of type %c has places for ints%s alone", type, type == 'd' ? " and floats" : "");
+      return -1;
+    }
+    long long whole = type == 'q' ? PyLong_AsLongLong(value) : 0;
+    double real = type == 'd' ? PyFloat_Check(value) ? PyFloat_AsDouble(value) : PyLong_AsDouble(value) : 0;
+    if ((whole == -1 || real == -1) && PyErr_Occurred()) return -1;
+    memcpy(&stored[at], type == 'q' ? (void *)&whole : (void *)&real, sizeof stored[at]);
+  }
+  return 0;
+}
+
+/* The keys between two bounds and their values, each as a bytes, eight bytes a number. Without a type no value is given. */
+static PyObject *index_packed(PyObject *object, PyObject *args) {
+  Index *self = (Index *)object;
+  PyObject *minimum, *maximum, *inclusive, *packed = NULL;
+  const char *type;
+  if (!PyArg_ParseTuple(args, "OOOz", &minimum, &maximum, &inclusive, &type)) return NULL;
+  if (type && strcmp(type, "q") != 0 && strcmp(type, "d") != 0) return PyErr_Format(PyExc_ValueError, "the values go to an array of type q or d, not %s", type);
+  if (self->kind == BYTES || self->kind == STRINGS) return PyErr_Format(PyExc_TypeError, "the keys of this index are no numbers");
+  Bound low, high;
+  int some = read_bounds(self, minimum, maximum, inclusive, &low, &high);
+  if (some < 0) return NULL;
+  if (!some) return Py_BuildValue("(y#y#)", "", (Py_ssize_t)0, "", (Py_ssize_t)0);
+  /* If both bounds are open one fill gives all. */
+  size_t count = 0, places = low.kind || high.kind ? AHEAD : tree_index_len(&self->handle) + 1;
+  uint64_t *keys = NULL, *values = NULL;
+  do {
+    void *more_keys = PyMem_Realloc(keys, places * sizeof *keys), *more_values = PyMem_Realloc(values, places * sizeof *values);
+    if (more_keys) keys = more_keys;
+    if (more_values) values = more_values;
+    if (!more_keys || !more_values) {
+      PyErr_NoMemory();
+      goto out;
+    }
+    count += tree_index_fill_arrays(&self->handle, low.kind, low.number, high.kind, high.number, keys + count, places - count, values + count, places - count);
+    places *= 2;
+    if (count) low = (Bound){TREE_INDEX_EXCLUDED, keys[count - 1], NULL};
+  } while (2 * count == places);
+  for (size_t at = 0; at < count; at++) keys[at] = turned(keys[at]);
+  if (!type || unpack(values, count, *type) == 0) packed = Py_BuildValue("(y#y#)", keys, (Py_ssize_t)(8 * count), values, (Py_ssize_t)(type ? 8 * count : 0));
+out:
+  PyMem_Free(keys);
+  PyMem_Free(values);
+  return packed;
+}
+
 static PyObject *index_setdefault(PyObject *object, PyObject *args) {
   Index *self = (Index *)object;
   PyObject *name, *value = Py_None;
@@ -1014,6 +1076,7 @@ static PyMethodDef index_methods[] = {
     {"_copy_from", index_copy_from, METH_O, NULL},
     {"_get_packed", index_get_packed, METH_VARARGS, NULL},
     {"_get_each", index_get_each, METH_VARARGS, NULL},
+    {"_packed", index_packed, METH_VARARGS, NULL},
     {"get", index_get, METH_VARARGS, "get(key, default=None): the value of a key, or the default."},
     {"setdefault", index_setdefault, METH_VARARGS, "setdefault(key, default=None): the value of a key, stored first if it is absent."},
     {"pop", index_pop, METH_VARARGS, "pop(key[, default]): removes a key and returns its value."},

@@ -134,8 +134,9 @@ fn fill_from(
     places.len()
 }
 
+/// Takes the next pair from one end of a walk.
 #[inline(always)]
-fn step<'t>(cursor: &mut Range<'t, u64, u64>, backwards: bool) -> Option<(&'t u64, &'t u64)>
+pub fn step<'t>(cursor: &mut Range<'t, u64, u64>, backwards: bool) -> Option<(&'t u64, &'t u64)>
     ensures { Moves nat_cmp (way_of backwards) cursor.old result cursor.new }
 {
     if backwards {

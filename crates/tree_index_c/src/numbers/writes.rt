@@ -1,8 +1,9 @@
 //! Writes to an index whose keys are numbers.
-ghost use Rattle.std.specs.Prelude.{◌≡◌, ◌-◌, [], drop, length, take};
+ghost use Rattle.std.specs.Prelude.{◌≡◌, ◌-◌, MatchOption, [], drop, length, take};
 ghost use Rattle.std.specs.Option.{option_map};
 ghost use Rattle.std.specs.Ordering.{nat_cmp};
 ghost use Rattle.tree_leaf.specs.Walks.{first_of, last_of};
+ghost use Rattle.tree_index.specs.Index.{with_value};
 ghost use Rattle.tree_index_c.specs.Answers.{OpensNumbers, Replaces, Says, Stores, Writes};
 ghost use Rattle.tree_index_c.specs.Held.{OnNumbers, UnlessOwnNumbers, held};
 ghost use Rattle.tree_index_c.specs.Pairs.{pair_of};
@@ -62,6 +63,40 @@ pub extern "C" fn tree_index_upsert(alloc: Global, handle: &mut Handle, key: u64
         Store::Numbers(index) => match index.upsert_sync(key, value) {
             Ok(()) => YES,
             Err(_) => NO_MEMORY,
+        },
+        _ => MISFIT,
+    };
+    *handle = Handle::leading_to(store);
+    answer
+}
+
+/// Swaps the value of a key with the one that is passed. Answers `NO`, and changes nothing, if the
+/// key is absent. Runs in O(log n). Allocates nothing.
+#[unsafe(no_mangle)]
+pub extern "C" fn tree_index_replace(
+    alloc: Global,
+    handle: &mut Handle,
+    key: u64,
+    value: &mut u64,
+) -> i32
+    ensures done { OnNumbers
+        (λ old answer new. MatchOption (pair_at nat_cmp old.pairs key)
+        ((answer ≡ NO) × (value.new ≡ value.old) × (new ≡ old))
+        (λ pair. (answer ≡ YES) × (value.new ≡ pair.1)
+        × (new ≡ with_value nat_cmp old pair.0 value.old)))
+        (held handle.old) result (held handle.new) }
+    ensures stays { UnlessOwnNumbers (held handle.old) (value.new ≡ value.old) }
+{
+    let Some(mut store) = handle.take(alloc) else {
+        return MISFIT;
+    };
+    let answer = match &mut *store {
+        Store::Numbers(index) => match index.replace_sync(&key, *value) {
+            Ok(old) => {
+                *value = old;
+                YES
+            }
+            Err(_) => NO,
         },
         _ => MISFIT,
     };
