@@ -27,16 +27,20 @@ CRATES = (
     "tree_shared",
     "tree_readers",
     "tree_lines",
+    "tree_store",
+    "store_codec",
+    "store_log",
 )
 # The groups of calls on a page, in the order in which they stand there. A call of another name goes by what it takes.
 GROUPS = {
-    "Create": "new from_sorted",
+    "Create": "new from_sorted open make",
     "Look up": "peek peek_entry peek_with read_sync get contains len is_empty depth spare tally history index",
     "Nearest": "first last at_or_below at_or_above locate",
     "Walk": "iter keys values range union intersection difference symmetric_difference get_back flip",
     "Write": "insert insert_sync upsert upsert_sync peek_or_insert extend try_extend replace_sync modify_sync apply",
-    "Remove": "remove remove_sync remove_if_sync take_sync pop_first pop_last retain_sync remove_range remove_range_sync clear",
-    "Convert": "try_clone as_str as_bytes into_string into_bytes into_parts into_pair",
+    "Remove": "remove remove_sync remove_if_sync take take_sync pop_first pop_last retain_sync remove_range remove_range_sync clear",
+    "Commit": "commit roll_back compact verify",
+    "Convert": "try_clone push_to take_from as_str as_bytes into_string into_bytes into_parts into_pair",
     "Share": "close",
 }
 # The groups of other calls, by how they take `self`.
@@ -191,17 +195,27 @@ def root_of(crate, name):
 
 @functools.lru_cache(None)
 def exported():
-    """The items that the crates export: for each its crate and name, the crate that exports it first and its names there."""
+    """The items that the crates export: for each its crate and name, the crate that exports it first and its names. A name that only
+    another crate has for it stands with that crate."""
     found = {}
     for crate in CRATES:
         for name, home in CONTRACTS.exports_of(crate):
-            root = root_of(home, name)
-            found.setdefault(root, (crate, []))[1].append(name)
+            first, names = found.setdefault(root_of(home, name), (crate, []))
+            names.append(name if first == crate or name in names else f"{crate}::{name}")
     return {root: (crate, list(dict.fromkeys([*names, root[1]]))) for root, (crate, names) in found.items()}
 
 
+@functools.lru_cache(None)
+def meanings():
+    """What each name means in a crate: the items that the crate exports, and those that are its own."""
+    found = {crate: {name: root_of(home, name) for name, home in CONTRACTS.exports_of(crate)} for crate in CRATES}
+    for home, root in exported():
+        found.setdefault(home, {}).setdefault(root, (home, root))
+    return found
+
+
 def shown_name(names):
-    """The name of a page: the plainest of the names of a type."""
+    """The plainest of the names of a type."""
     return next((it for it in names if not it.endswith(("Of", "Over")) and not it.startswith("Small")), names[0])
 
 
@@ -212,7 +226,8 @@ def kind_of(lines):
 
 @functools.lru_cache(None)
 def types():
-    """The types and traits that a caller sees, by the name of the page of each."""
+    """The types and traits that a caller sees, by the name of the page of each. If two have a name, the second one's page has its crate
+    before it."""
     found = {}
     for (home, root), (crate, names) in exported().items():
         _, file, _, lines = source().declared(home, root)
@@ -229,9 +244,10 @@ def types():
                 impls.append(trait_impl(trait, at, impl))
             else:
                 calls += members(at, home, root, impl, "pub fn")
-        name, line = shown_name(names), line_of(path, lines)
+        plain, line = shown_name(names), line_of(path, lines)
+        name = f"{crate}.{plain}" if plain in found else plain
         own = [it._replace(owner=name) for it in calls]
-        inner = any(is_inner(at, root) or is_inner(at, name) for at in (crate, home))
+        inner = any(is_inner(at, root) or is_inner(at, plain) for at in (crate, home))
         found[name] = Type(name, names, kind, crate, home, path, line, doc_over(path, line), lines, own, impls, inner or is_judge(impls))
     return found
 
@@ -239,6 +255,28 @@ def types():
 def is_judge(impls):
     """Whether a type is a judge of keys, which counts comparisons for a proof."""
     return any(it.trait.startswith("Judge<") for it in impls)
+
+
+def short_names(item):
+    """The short names of a type, each with its declaration."""
+    found = {}
+    for name in item.names:
+        crate, _, plain = name.rpartition("::")
+        if plain != CONTRACTS.name_of(item.lines):
+            _, _, _, lines = source().declared(crate or item.crate, plain)
+            found[name] = CONTRACTS.short(CONTRACTS.head_of(lines)).replace(plain, name, 1)
+    return found
+
+
+def types_with(item):
+    """The types that have a trait, as its impls spell them, each with its place."""
+    for crate in dict.fromkeys([*CONTRACTS.below_each()["tree_index"], *CRATES]):
+        for file, _, lines in source().items(crate):
+            if lines[0].startswith("impl"):
+                trait, of = CONTRACTS.owner_of(CONTRACTS.head_of(lines))
+                path, name = path_of(crate, file), re.match(r"\w*", trait).group()
+                if name in item.names and page_of(name, path) == item.name:
+                    yield CONTRACTS.short(of), Place(path, line_of(path, lines))
 
 
 @functools.lru_cache(None)
@@ -350,8 +388,10 @@ def public_calls(crate, homes):
 ERROR = re.compile(r"`Err`|`(Duplicate|OutOfMemory|NotAscending|PassMissing|Refused)`|\brefused\b|ToolFault|Stops|allocation fails|cannot allocate|hands? .*\bback\b")
 COST = re.compile(
     r"\b([Cc]omparisons?|[Cc]ompares|[Aa]llocat\w+|constant time|[Cc]osts?|[Dd]escen\w+|[Ss]earche[sd]|[Rr]eads every|[Rr]eserves"
-    r"|memory|asked at most|Does what|[Cc]lones|[Dd]rops (each|the parts)|[Rr]uns in O)\b"
+    r"|memory|asked at most|Does what|[Cc]lones|[Dd]rops (each|the parts)|[Rr]uns in O|[Rr]eads the file|[Ss]yncs|[Ww]aits for)\b"
 )
+# What tells of an error alone, though it has a word of a cost.
+FAILURE = re.compile(r"cannot allocate(?! (the|its|a) )|allocations? fails?|out of memory|lack of memory|failed allocation")
 
 
 def sentences_of(paragraph):
@@ -365,20 +405,26 @@ def kind_of_sentence(sentence, before, can_fail):
         return "what"
     if can_fail and ERROR.search(sentence):
         return "errors"
-    return "cost" if COST.search(sentence) else before
+    return "cost" if tells_cost(sentence) else before
+
+
+def tells_cost(sentence):
+    """Whether a sentence says what a call costs, and not only that an allocation may fail."""
+    return COST.search(FAILURE.sub("", sentence))
 
 
 def parts_of_doc(doc, can_fail=True):
-    """The parts of a documentation: what an item does, as paragraphs, its errors, its cost and its examples.
+    """The parts of a documentation: all of its paragraphs, what an item does, its errors, its cost and its examples.
 
     Of a call that cannot fail no sentence tells an error.
     """
-    found = {"what": [], "errors": [], "cost": [], "examples": []}
+    found = {"all": [], "what": [], "errors": [], "cost": [], "examples": []}
     blocks = re.split(r"^```\w*\n(.*?)^```$", "\n".join(doc) + "\n", flags=re.M | re.S)
     found["examples"] = [it.rstrip("\n") for it in blocks[1::2]]
     for number, paragraph in enumerate(it for block in blocks[::2] for it in re.split(r"\n\s*\n", block) if it.strip()):
         told = {"what": [], "errors": [], "cost": []}
         kind = "what"
+        found["all"].append(" ".join(paragraph.split()))
         for at, sentence in enumerate(sentences_of(" ".join(paragraph.split()))):
             kind = kind_of_sentence(sentence, kind, can_fail) if number or at else "what"
             told[kind].append(sentence)
@@ -402,7 +448,7 @@ def parts_of_call(call):
     told = [it for text in parts["what"] for it in sentences_of(text)]
     parts["errors"] = parts["errors"] or [it for it in told if can_fail(call) and ERROR.search(it)]
     told += [it for text in parts["errors"] for it in sentences_of(text)]
-    parts["cost"] = parts["cost"] or [it for it in told if COST.search(it)] or ([] if can_fail(call) else [NO_ALLOCATION])
+    parts["cost"] = parts["cost"] or [it for it in told if tells_cost(it)] or ([] if can_fail(call) else [NO_ALLOCATION])
     return parts
 
 
@@ -483,19 +529,51 @@ def word_at(path, name):
 def type_at(path, name):
     """The name of the page of a type that a name in a file means: of the type itself, or of one of its variants."""
     place, known = imports_of(path).get(name, ("", name))
-    found = re.search(r"\.specs\.declared\..*?(\w+)(\.TheVariants)?$", place)
-    return page_of(found.group(1) if found and found.group(2) else known) if found else None
+    found = re.search(r"^(\w+)\.specs\.declared\..*?(\w+)(\.TheVariants)?$", place)
+    return page_in(found.group(1), found.group(2) if found.group(3) else known) if found else None
 
 
 @functools.lru_cache(None)
 def pages():
-    """The name of the page of each name of a type."""
-    return {name: it.name for it in types().values() for name in it.names}
+    """The name of the page of each name of a type, which is that of the first type of this name."""
+    found = {}
+    for item in types().values():
+        for name in (item.name, *item.names):
+            found.setdefault(name, item.name)
+    return found
 
 
-def page_of(name):
-    """The name of the page of a type, by any of its names."""
-    return pages().get(name)
+@functools.lru_cache(None)
+def pages_of_roots():
+    """The name of the page of each type, by its crate and its name there."""
+    return {(it.home, CONTRACTS.name_of(it.lines)): it.name for it in types().values()}
+
+
+def page_in(crate, name):
+    """The name of the page of the type that a name means in a crate, or else of the first type of this name."""
+    root = meanings().get(crate, {}).get(name)
+    return pages_of_roots().get(root) if root else pages().get(name)
+
+
+@functools.lru_cache(None)
+def used_in(path):
+    """The crate that each name comes from which the code of a file uses."""
+    text = re.sub(r"//.*", "", text_of(path))
+    uses = re.findall(r"^use (\w+)::([^;]*);", text, re.M)
+    return {name: crate for crate, names in uses for name in re.findall(r"\w+", names)}
+
+
+def page_of(name, path=""):
+    """The name of the page of a type by any of its names, as a file uses it if one is given. Of two types with a name it is that of the
+    first, unless the crate stands before it."""
+    crate, _, plain = name.rpartition("::")
+    if crate:
+        return page_in(crate, plain) if crate in meanings() else None
+    if not path:
+        return pages().get(name)
+    crate = used_in(path).get(name, crate_of(path))
+    crate = crate_of(path) if crate in ("crate", "self", "super") else crate
+    return page_in(crate, name) if crate in CONTRACTS.below_each() else None
 
 
 def crate_of(path):

@@ -4,7 +4,7 @@ const WEIGHTS = { tasks: 45, reference: 35, languages: 20, words: 0, docs: 0, pr
 const OBJECT = 30;
 const weightOf = (page) => Object.keys(WEIGHTS).filter((it) => page.startsWith(`${it}/`)).map((it) => WEIGHTS[it]).pop() || 0;
 var Scorer = {
-  score: ([page, title, anchor, what, score]) => score + weightOf(page) + (what ? OBJECT : 0),
+  score: ([page, title, anchor, what, score]) => score + weightOf(page) + (what && !page.startsWith("languages/") ? OBJECT : 0),
   objNameMatch: 40,
   objPartialMatch: 6,
   objPrio: { 0: 15, 1: 5, 2: -5 },

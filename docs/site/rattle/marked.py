@@ -15,20 +15,22 @@ KEYWORDS = set("fn pub self Self mut const impl for where enum struct trait type
 WIDTH = 88
 
 
-def role_of(match):
+def role_of(match, path, within):
     """A link of a documentation as a role, if it leads to an item of the repository. One to the standard library is its text."""
     text, target = match.group(1), match.group(2) or match.group(1)
     owner, _, name = target.rpartition("::")
-    if reader.page_of(owner) or not owner and target in reader.functions():
-        return f"{{rattle:call}}`{text} <{target}>`"
-    if owner or target in STANDARD or target.startswith("http"):
-        return f"`{text}`"
-    return f"{{rattle:type}}`{text} <{target}>`"
+    page = within if owner == "Self" else reader.page_of(owner, path)
+    is_ours = not owner or owner.partition("::")[0] in reader.CONTRACTS.below_each()
+    if page or is_ours and name in reader.functions():
+        return f"{{rattle:call}}`{text} <{f'{page}::{name}' if page else name}>`"
+    page = reader.page_of(target, path)
+    is_told = not is_ours or target in STANDARD or target.startswith("http")
+    return f"`{text}`" if is_told and not page else f"{{rattle:type}}`{text} <{page or target}>`"
 
 
-def markdown(paragraphs):
-    """Paragraphs of a documentation, with roles for its links."""
-    return "\n\n".join(LINK.sub(role_of, it) for it in paragraphs)
+def markdown(paragraphs, path="", within=""):
+    """Paragraphs of a documentation of a file, with roles for its links. What is within a type may name the calls of `Self`."""
+    return "\n\n".join(LINK.sub(lambda it: role_of(it, path, within), paragraph) for paragraph in paragraphs)
 
 
 def xref(kind, target, text, within=""):
@@ -64,18 +66,17 @@ def split_at_commas(text):
     return [text[a + 1 : b].strip() for a, b in zip(places, places[1:])]
 
 
-def signature_nodes(text, name=""):
-    """A signature as nodes: its name, its keywords, and links to the types that it has."""
-    for word, other in re.findall(r"(\w+)|(\W+)", text):
+def signature_nodes(text, path, name=""):
+    """A signature of a file as nodes: its name, its keywords, and links to the types that it has."""
+    for word, other in re.findall(r"(\w+(?:::\w+)*)|(\W+)", text):
+        page = reader.page_of(word, path) if word and word != name else None
         if word and word == name:
             yield addnodes.desc_name("", name)
             name = ""
         elif word in KEYWORDS:
             yield addnodes.desc_sig_keyword("", word)
-        elif reader.page_of(word):
-            yield xref("type", word, word)
         else:
-            yield nodes.Text(word or other)
+            yield xref("type", page, word) if page else nodes.Text(word or other)
 
 
 def clause_nodes(path, text):

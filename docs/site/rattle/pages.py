@@ -4,6 +4,7 @@ Each page is a stub of a few lines, which is written before the pages are read. 
 """
 import os
 import re
+from itertools import zip_longest
 
 from docutils import nodes
 from docutils.statemachine import StringList
@@ -12,7 +13,7 @@ from sphinx.util import logging
 from sphinx.util.docutils import SphinxDirective
 
 import reader
-from .marked import clause_block, code_block, folded, markdown, signature_nodes, signature_text, source_link
+from .marked import clause_block, code_block, folded, markdown, signature_nodes, signature_text, source_link, xref
 
 LOGGER = logging.getLogger(__name__)
 LANGUAGES = {"rt": "rattle", "c": "c", "h": "c", "cpp": "cpp", "rs": "rust", "py": "python"}
@@ -22,12 +23,35 @@ EXAMPLES = {
     "TreeSet": ("crates/usage/src/guests.rt", "pub fn next_to_ask"),
     "SharedTreeIndex": ("crates/usage_threads/src/claims.rt", "pub fn claim_both"),
     "Text": ("crates/usage/src/stores.rt", "pub fn count_of"),
+    "Bytes": ("crates/tree_tests/src/prefixes.rt", "fn store_bytes"),
+    "Cursor": ("crates/usage/src/book.rt", "pub fn second_ask"),
     "Range": ("crates/usage/src/walks.rt", "pub fn ends_within"),
     "Iter": ("crates/usage/src/walks.rt", "pub fn highest_price"),
+    "IntoIter": ("crates/tree_tests/src/callers.rt", "fn ends_by_value"),
+    "Keys": ("crates/usage/src/stock.rt", "pub fn first_article"),
+    "Values": ("crates/usage/src/stock.rt", "pub fn pieces"),
     "Proximity": ("crates/usage/src/walks.rt", "pub fn price_at_or_below"),
     "InsertError": ("crates/usage/src/stores.rt", "pub fn open"),
     "IndexKey": ("crates/usage/src/keys.rt", "impl IndexKey for Price"),
     "FromSortedError": ("crates/usage/src/stores.rt", "pub fn archive"),
+    "Command": ("crates/usage_threads/src/calls.rt", "fn show_batch"),
+    "Record": ("crates/tree_tests/src/histories.rt", "fn has_the_calls"),
+    "Reply": ("crates/tree_tests/src/histories.rt", "static CALLS"),
+    "tree_set.Range": ("crates/usage/src/examples.rt", "pub fn first_within"),
+    "tree_set.FromSortedError": ("crates/usage/src/examples.rt", "pub fn sorted"),
+    "Difference": ("crates/usage/src/guests.rt", "pub fn next_to_ask"),
+    "State": ("crates/tree_tests/src/histories.rt", "fn keeps_each_call"),
+    "Pass": ("crates/usage_threads/src/claims.rt", "fn claim<"),
+    "Tally": ("crates/usage_threads/src/claims.rt", "pub fn claim_both"),
+    "Blanks": ("crates/usage_threads/src/claims.rt", "pub fn claimed_by_two"),
+    "Closed": ("crates/usage_threads/src/claims.rt", "pub fn claim_both"),
+    "Unclosed": ("crates/shared_tests/src/closed.rt", "pub fn closed_with"),
+    "Writer": ("crates/usage_threads/src/prices.rt", "fn quote_alone"),
+    "Reader": ("crates/usage_threads/src/prices.rt", "pub fn price_of"),
+    "Reading": ("crates/usage_threads/src/prices.rt", "pub fn price_of"),
+    "Handle": ("crates/usage_threads/src/calls.rt", "fn lent"),
+    "Guard": ("crates/usage_threads/src/calls.rt", "fn lent"),
+    "ContainsEach": ("crates/usage/src/baskets.rt", "pub fn cost_of"),
 }
 
 
@@ -87,12 +111,12 @@ class Page(SphinxDirective):
         self.note(kind, name, name, " ".join(parts["what"][:1]))
         if not parts["cost"]:
             LOGGER.warning("%s has no cost", name, location=f"{call.file}:{call.line}")
-        told = [("Errors", told_errors(call, parts)), ("Cost", markdown(parts["cost"]))]
-        content = [*self.parsed(markdown(parts["what"])), *([self.fields(told)] if kind == "call" else [])]
+        told = [("Errors", told_errors(call, parts)), ("Cost", marked(parts["cost"], call))]
+        content = [*self.parsed(marked(parts["what"], call)), *([self.fields(told)] if kind == "call" else [])]
         content += [code_block(it) for it in parts["examples"]]
         clauses = reader.clauses_of(call)
         content += folded("Clauses", call.file, clauses) if clauses else []
-        return self.declared(kind, name, call, signature_nodes(signature_text(call.lines), call.name), content)
+        return self.declared(kind, name, call, signature_nodes(signature_text(call.lines), call.file, call.name), content)
 
     def implemented(self, of, impl):
         """What a type is as one of another trait, with what its clauses say of that."""
@@ -102,17 +126,22 @@ class Page(SphinxDirective):
             self.note("call", f"{of.name}.{function}", f"impl.{name}")
         ghosts = "\n".join(f"{ghost} = {text}" for ghost, text in impl.ghosts)
         parts = reader.parts_of_doc(impl.doc)
-        content = self.parsed(markdown(parts["what"] + parts["errors"] + parts["cost"]))
+        content = self.parsed(markdown(parts["all"], impl.file, of.name))
         content += folded("Clauses", impl.file, ghosts) if ghosts else []
         text = reader.CONTRACTS.short(reader.CONTRACTS.head_of(impl.lines))
         text = re.sub(r"^impl(<[^>]*>)? ", "impl ", re.sub(r" where .*", "", text))
-        return self.declared("impl", f"impl.{name}", impl, signature_nodes(text), content, trait)
+        return self.declared("impl", f"impl.{name}", impl, signature_nodes(text, impl.file), content, trait)
+
+
+def marked(paragraphs, call):
+    """Paragraphs of the documentation of a call."""
+    return markdown(paragraphs, call.file, call.owner)
 
 
 def told_errors(call, parts):
     """What a page says of the errors of a call: its documentation's words, or that there are none."""
     if parts["errors"]:
-        return markdown(parts["errors"])
+        return marked(parts["errors"], call)
     result = reader.CONTRACTS.head_of(call.lines).rpartition(" -> ")[2]
     return f"As `{reader.CONTRACTS.short(result)}` says." if reader.can_fail(call) else "None."
 
@@ -144,22 +173,23 @@ class TypePage(Page):
 
     def run(self):
         item = reader.types()[self.arguments[0]]
-        return [*self.about(item), *self.groups(item), *self.traits(item)]
+        return [*self.about(item), *self.groups(item), *self.traits(item), *self.types(item)]
 
     def about(self, item):
         """What a type is: its declaration, its documentation, an example, and what contracts see of it."""
         parts = reader.parts_of_doc(item.doc, False)
         if not parts["what"]:
             LOGGER.warning("%s has no documentation", item.name, location=f"{item.file}:{item.line}")
-        for name in item.names:
-            self.note("type", name, item.name, " ".join(parts["what"][:1]))
-        others = [f"`{it}`" for it in item.names if it != item.name]
-        where = f"Of {{rattle:crate}}`{item.crate}`" + (f", also as {' and '.join(others)}" if others else "") + "."
-        content = [*self.parsed(markdown(parts["what"] + parts["cost"])), *self.example(item, parts["examples"])]
+        for name in (item.name, *item.names):
+            if reader.page_of(name) == item.name:
+                self.note("type", name, item.name, " ".join(parts["what"][:1]))
+        short = reader.short_names(item)
+        content = [*self.parsed(markdown(parts["all"], item.file, item.name)), *self.example(item, parts["examples"])]
         path, seen = seen_of(item)
         content += folded("What contracts see", path, seen) if seen else []
-        shape = self.declared("type", item.name, item, signature_nodes(shape_of(item), item.name), [])
-        return [shape, *self.parsed(where), *content]
+        shape = self.declared("type", item.name, item, signature_nodes(shape_of(item), item.file, reader.CONTRACTS.name_of(item.lines)), [])
+        where = self.parsed(f"Of {{rattle:crate}}`{item.crate}`" + (", with short names:" if short else "."))
+        return [shape, *where, *([code_block("\n".join(short.values()))] if short else []), *content]
 
     def example(self, item, own):
         """The examples of a type: its own, or the item of a program that is named for it."""
@@ -186,6 +216,13 @@ class TypePage(Page):
         found = [self.implemented(item, it) for it in item.impls if it.trait != "Model"]
         return [self.section("Traits", f"{item.name}-traits", *found)] if found else []
 
+    def types(self, item):
+        """The types that have a trait."""
+        found = [xref("source", f"{at.file}#L{at.line}", of) for of, at in reader.types_with(item)] if item.kind == "trait" else []
+        commas = [nodes.Text(", ") for _ in found[1:]]
+        told = nodes.paragraph("", "", *(it for pair in zip_longest(found, commas) for it in pair if it))
+        return [self.section("Types that have it", f"{item.name}-types", told)] if found else []
+
 
 class CratePage(Page):
     """The page of a crate: its documentation, its types and its functions."""
@@ -194,11 +231,12 @@ class CratePage(Page):
         crate = self.arguments[0]
         self.note("crate", crate, crate)
         parts = reader.parts_of_doc(reader.doc_of_crate(crate), False)
-        found = [nodes.target("", "", ids=[crate]), *self.parsed(markdown(parts["what"] + parts["cost"]))]
+        path = reader.path_of(crate, "src/lib.rt")
+        found = [nodes.target("", "", ids=[crate]), *self.parsed(markdown(parts["all"], path))]
         found += [code_block(it) for it in parts["examples"]]
         types = [it for it in reader.types().values() if it.crate == crate and not it.is_for_proofs]
         if types:
-            found.append(self.section("Types", f"{crate}-types", self.fields([(it.name, listed(it)) for it in types])))
+            found.append(self.section("Types", f"{crate}-types", *self.parsed("\n".join(f"- {listed(it)}" for it in types))))
         functions = [it for it in reader.functions().values() if it.crate == crate and not it.is_for_proofs]
         if functions:
             found.append(self.section("Functions", f"{crate}-functions", *map(self.call, functions)))
@@ -207,7 +245,12 @@ class CratePage(Page):
 
 def listed(item):
     """A line of a list of types: its name as a link, and the first sentence of its documentation."""
-    return f"{{rattle:type}}`{item.name}`: " + markdown([reader.CONTRACTS.sentence_of(item.doc)])
+    return f"{{rattle:type}}`{titled(item)} <{item.name}>`: " + markdown([reader.CONTRACTS.sentence_of(item.doc)], item.file, item.name)
+
+
+def titled(item):
+    """The title of the page of a type."""
+    return item.name.replace(".", "::")
 
 
 def for_proofs(crate):
@@ -261,8 +304,10 @@ def run_of(directive):
 
 def stubs():
     """The name and the text of each page."""
+    for name in EXAMPLES.keys() - reader.types().keys():
+        LOGGER.warning("an example is for %s, which no crate exports", name)
     for item in reader.types().values():
-        yield f"reference/{item.name}", f"# {item.name}\n\n```{{rattle:page}} {item.name}\n```\n"
+        yield f"reference/{item.name}", f"# {titled(item)}\n\n```{{rattle:page}} {item.name}\n```\n"
     for crate in reader.CRATES:
         yield f"reference/{crate}", f"# Crate {crate}\n\n```{{rattle:crate}} {crate}\n```\n"
     proofs = [it for it in reader.CRATES if any(for_proofs(it))]

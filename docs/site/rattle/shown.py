@@ -3,18 +3,27 @@
     ```{rattle:shown} crates/usage/src/book.rt pub fn cancel
     ```
 
-    ```{rattle:languages}
-    Rattle: crates/usage/src/book.rt pub fn cancel
-    C: tasks.c static void cancel
-    Python: a language without an example has a text in its place
+    ```{rattle:languages} remove_range
     ```
+
+docs/site/examples.txt has the tabs by that name.
 """
+import functools
+
+import reader
 from .pages import Page
 
 # What begins so is a part of a file, and not a text.
 FOLDERS = ("crates/", "bindings/")
 # The programs that have the examples of the tasks, which are named by their file alone.
 TASKS = "bindings/programs/tasks/"
+
+
+@functools.lru_cache(None)
+def examples():
+    """The lines of the tabs of each example."""
+    blocks = [it.splitlines() for it in reader.text_of("docs/site/examples.txt").split("\n\n")]
+    return {name: lines for name, *lines in blocks[1:]}
 
 
 class Shown(Page):
@@ -30,12 +39,11 @@ class Shown(Page):
 class Languages(Page):
     """The same example in several languages, as tabs."""
 
-    required_arguments = 0
-    has_content = True
-
     def run(self):
-        lines = ["`````{tabs}"]
-        for line in filter(None, self.content):
+        lines, name = ["`````{tabs}"], self.arguments[0]
+        if name not in examples():
+            raise self.error(f"no example is named {name}")
+        for line in examples()[name]:
             language, _, told = line.partition(": ")
             lines += [f"````{{group-tab}} {language}", *self.tab(told), "````"]
         return self.parsed("\n".join([*lines, "`````"]))

@@ -15,6 +15,8 @@ NAMED = re.compile(r"(?:(\w+)::)?([a-z]\w*)(\(.*\))?$", re.S)
 # The pages whose names in code marks are looked up, and those that name what isn't here.
 LINKED = ("README", "docs/")
 LACKING = ("docs/DIFFERENCES", "docs/work/")
+# The pages that speak of the calls of one type.
+OWNERS = {"docs/STORE": "TreeStore"}
 
 
 def told_links(app, docname, source):
@@ -45,11 +47,13 @@ class Names(SphinxTransform):
             return
         for node in list(self.document.findall(nodes.literal)):
             if not isinstance(node.parent, (nodes.reference, nodes.title)) and node.parent.tagname != "pending_xref":
-                linked(node, owner_of(node))
+                linked(node, owner_of(node, docname))
 
 
-def owner_of(node):
-    """The type whose calls the pages speak of at a node: that of the last heading that names one."""
+def owner_of(node, docname):
+    """The type whose calls a page speaks of at a node: that of the page, or of the last heading that names one."""
+    if docname in OWNERS:
+        return OWNERS[docname]
     while node is not None:
         if isinstance(node, nodes.section):
             words = node[0].astext().lower().split()
