@@ -6,7 +6,6 @@
 
 mod compound;
 mod encode;
-mod integers;
 mod numbers;
 mod records;
 
