@@ -7,7 +7,7 @@ use Rattle.store_log.specs.declared.head.Head.{Head}
 use Rattle.store_log.proofs.Spares.{blank_older, head_once, texts_headed}
 use Rattle.store_pair.specs.Pair.{AreClean, AreOrdered, AreSettled, AreUntouched, AreUsable, HavePair, IsCounted, LeavePair, counted_in, files_in, held_in, other_in}
 use Rattle.store_pair.specs.declared.files.Files.{Files}
-use Rattle.store_pair.proofs.Pairs.{clean_both, clean_parts, counted_seen, have_pair, have_parts, held_same, leave_pair, other_seen, settled_parts, untouched_both, untouched_twice, usable_both, usable_parts}
+use Rattle.store_pair.proofs.Pairs.{clean_both, clean_parts, counted_seen, have_pair, have_parts, held_same, leave_pair, other_seen, settled_parts, untouched_both, untouched_twice}
 
 module _ {D : Type 0} {is_clean is_usable : D → Bool} {seen : D → List ℕ} {may_leave : D → List ℕ → Type 0} {files : Files D} {swapped : Bool} {disk spare : D} (o : AreOrdered is_clean is_usable seen may_leave files swapped disk spare) where
   read_as : held_in seen files ≡ held_in seen (files_in swapped disk spare)
@@ -22,12 +22,12 @@ module _ {D : Type 0} {is_clean is_usable : D → Bool} {seen : D → List ℕ} 
   other_is = ap (other_in swapped) read_as ∙ other_seen seen swapped disk spare
 
   pub both_usable : IsTrue (is_usable disk) × IsTrue (is_usable spare)
-  both_usable = usable_parts is_usable swapped disk spare o.usable
+  both_usable = clean_parts is_usable swapped disk spare o.usable
 
   -- a refusal of the file that counts
   module _ (after : D) where
     pub after_usable : IsTrue (is_usable after) → AreUsable is_usable (files_in swapped after spare)
-    after_usable usable = usable_both is_usable swapped after spare usable both_usable.1
+    after_usable usable = clean_both is_usable swapped after spare usable both_usable.1
 
     pub after_untouched : IsUntouched seen may_leave disk after → AreUntouched seen may_leave files (files_in swapped after spare)
     after_untouched same =

@@ -9,7 +9,7 @@ use Rattle.store_log.specs.Log.{Contents, HasTexts, IsUntouched, LeavesTexts, en
 use Rattle.store_log.specs.Spare.{AreOlder, IsOlder, next_head}
 use Rattle.store_log.specs.declared.head.Head.{Head}
 use Rattle.store_log.proofs.Spares.{texts_headed, texts_older}
-use Rattle.store_pair.specs.Pair.{AreClean, AreSettled, AreUntouched, AreUsable, AreUsed, Counts, HaveFailed, HavePair, Held, IsCounted, IsPair, LeavePair, MayHold, Pair, counted_in, files_in, held_in, other_in}
+use Rattle.store_pair.specs.Pair.{AreClean, AreSettled, AreUntouched, AreUsed, Counts, HaveFailed, HavePair, Held, IsCounted, IsPair, LeavePair, MayHold, Pair, counted_in, files_in, held_in, other_in}
 use Rattle.store_pair.specs.declared.files.Files.{Files}
 
 abbrev pub held_of : List ℕ → List ℕ → Held
@@ -27,21 +27,18 @@ module _ {D : Type 0} where
   clean_both is_clean true disk spare one other = (other, one)
   clean_both is_clean false disk spare one other = (one, other)
 
-  pub usable_parts : (is_usable : D → Bool) (swapped : Bool) (disk spare : D) → AreUsable is_usable (files_in swapped disk spare) → IsTrue (is_usable disk) × IsTrue (is_usable spare)
-  usable_parts is_usable true disk spare usable = (usable.1, usable.0)
-  usable_parts is_usable false disk spare usable = usable
+  -- the other file is as it was
+  pub still_clean : (is_clean : D → Bool) (swapped : Bool) (disk spare new : D) → (IsTrue (is_clean new) → IsTrue (is_clean disk)) → AreClean is_clean (files_in swapped new spare) → AreClean is_clean (files_in swapped disk spare)
+  still_clean is_clean true disk spare new cleaner clean = (clean.0, cleaner clean.1)
+  still_clean is_clean false disk spare new cleaner clean = (cleaner clean.0, clean.1)
 
-  pub usable_both : (is_usable : D → Bool) (swapped : Bool) (disk spare : D) → IsTrue (is_usable disk) → IsTrue (is_usable spare) → AreUsable is_usable (files_in swapped disk spare)
-  usable_both is_usable true disk spare one other = (other, one)
-  usable_both is_usable false disk spare one other = (one, other)
+  pub no_more_left : (may_leave : D → List ℕ → Type 0) (swapped : Bool) (disk spare new : D) → ((file : List ℕ) → may_leave new file → may_leave disk file) → (left : Held) → MayHold may_leave (files_in swapped new spare) left → MayHold may_leave (files_in swapped disk spare) left
+  no_more_left may_leave true disk spare new no_more left may = (may.0, no_more left.second may.1)
+  no_more_left may_leave false disk spare new no_more left may = (no_more left.first may.0, may.1)
 
   pub hold_parts : (may_leave : D → List ℕ → Type 0) (swapped : Bool) (disk spare : D) (left : Held) → MayHold may_leave (files_in swapped disk spare) left → may_leave disk (counted_in swapped left) × may_leave spare (other_in swapped left)
   hold_parts may_leave true disk spare left may = (may.1, may.0)
   hold_parts may_leave false disk spare left may = may
-
-  pub hold_both : (may_leave : D → List ℕ → Type 0) (swapped : Bool) (disk spare : D) (left : Held) → may_leave disk (counted_in swapped left) → may_leave spare (other_in swapped left) → MayHold may_leave (files_in swapped disk spare) left
-  hold_both may_leave true disk spare left one other = (other, one)
-  hold_both may_leave false disk spare left one other = (one, other)
 
   pub counted_seen : (seen : D → List ℕ) (swapped : Bool) (disk spare : D) → counted_in swapped (held_in seen (files_in swapped disk spare)) ≡ seen disk
   counted_seen seen true disk spare = refl
@@ -134,9 +131,13 @@ caused_so F Memory f caused = f caused
 caused_so F TooLong f caused = f caused
 caused_so F Stopped f caused = f caused
 
+-- a log that runs isn't stopped
+pub not_stopped : {P : Type 0} (stopped : Bool) → stopped ≡ false → stopped ≡ true → P
+not_stopped stopped off on = let z : ⊥ = cc (on, off) in absurd z
+
 -- a log that isn't stopped was refused
 pub running : {P : Type 0} (stopped : Bool) → (stopped ≡ true) ⊎ P → stopped ≡ false → P
-running stopped (inl on) off = let z : ⊥ = cc (on, off) in absurd z
+running stopped (inl on) off = not_stopped stopped off on
 running stopped (inr p) off = p
 
 pub stopped_or_not : (stopped : Bool) → (stopped ≡ true) ⊎ (stopped ≡ false)

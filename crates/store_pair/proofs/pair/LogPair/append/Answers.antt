@@ -3,7 +3,7 @@ use Rattle.store_log.specs.Log.{Contents}
 use Rattle.store_log.specs.Spare.{AreOlder}
 use Rattle.store_log.specs.declared.head.Head.{Head}
 use Rattle.store_pair.specs.Pair.{counted_in, other_in, pair_of}
-use Rattle.store_pair.proofs.Pairs.{caused_both, clean_both, clean_parts, either_pair, err_then, failed_one, hold_parts, leave_pair, ok_both, ran, still_leaves, stopped_or_not}
+use Rattle.store_pair.proofs.Pairs.{caused_both, clean_parts, either_pair, err_then, failed_one, hold_parts, leave_pair, ok_both, ran, still_clean, still_leaves, stopped_or_not}
 use Rattle.store_pair.proofs.pair.LogPair.append.Goals as goal
 
 pub invariant_of-self : goal.invariant_of-self
@@ -77,8 +77,4 @@ pub returns-clause-head : goal.returns-clause-head
 returns-clause-head g c = rw (← c.self.view_is) c.append.ensures.head
 
 pub returns-clause-clean : goal.returns-clause-clean
-returns-clause-clean g c =
-    let inside = c.self.inside in
-    rw (← c.self.view_is) (λ clean.
-    let parts = clean_parts g.D.Disk.is_clean inside.swapped c.append.new.self.disk inside.spare clean in
-    clean_both g.D.Disk.is_clean inside.swapped inside.log.disk inside.spare (c.append.ensures.clean parts.0) parts.1)
+returns-clause-clean g c = rw (← c.self.view_is) (still_clean g.D.Disk.is_clean c.self.inside.swapped c.self.inside.log.disk c.self.inside.spare c.append.new.self.disk c.append.ensures.clean)

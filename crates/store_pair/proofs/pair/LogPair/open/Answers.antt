@@ -27,11 +27,10 @@ invariant_of-pair g c =
 
 pub returns-in-Ok-open-clause-opened : goal.returns-in-Ok-open-clause-opened
 returns-in-Ok-open-clause-opened g c clean =
-    let log = c.in-Ok-open.log in
     let found = c.in-Ok.found in
-    let parts = clean_parts g.D.Disk.is_clean found.0 log.disk c.close.new.spare clean in
+    let parts = clean_parts g.D.Disk.is_clean found.0 c.in-Ok-open.log.disk c.close.new.spare clean in
     let was = clean_both g.D.Disk.is_clean found.0 found.1 found.2 (c.in-Ok-open.ensures.clean parts.0) (c.close.ensures.clean parts.1) in
-    opened_pair c.in-Ok.ensures.ordered c.requires.settled was log.head log.texts (c.in-Ok-open.ensures.opened parts.0)
+    opened_pair c.in-Ok.ensures.ordered c.requires.settled was c.in-Ok-open.log.head c.in-Ok-open.log.texts (c.in-Ok-open.ensures.opened parts.0)
 
 pub returns-in-Ok-open-clause-bytes : goal.returns-in-Ok-open-clause-bytes
 returns-in-Ok-open-clause-bytes g c clean =

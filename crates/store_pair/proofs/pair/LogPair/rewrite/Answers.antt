@@ -1,7 +1,7 @@
 use Rattle.std.proofs.Common.{◌≡◌, inl, true, false, sym, ◌∙◌, ap}
 use Rattle.store_log.specs.Log.{Contents}
 use Rattle.store_pair.specs.Pair.{pair_of}
-use Rattle.store_pair.proofs.Pairs.{caused_so}
+use Rattle.store_pair.proofs.Pairs.{caused_so, not_stopped}
 use Rattle.store_pair.proofs.Turned.{refused_clean, refused_crash, refused_pair, refused_texts, turned_clean, turned_crash, turned_pair, turned_texts}
 use Rattle.store_pair.proofs.pair.LogPair.rewrite.Goals as goal
 
@@ -40,11 +40,7 @@ returns-in-Ok-clause-clean g c =
     rw (← c.self.view_is) (λ clean. turned_clean c.self.invariant (sym c.is_stopped.ensures ∙ c.if-is_stopped.false) c.self.inside.swapped c.args.text.now c.rewrite.new.self c.rewrite.new.spare c.close.new.spare c.in-Ok.ensures.turned.0 c.in-Ok.ensures.turned.2 c.in-Ok.ensures.rewritten c.close.ensures.older c.close.ensures.clean clean c.in-Ok.ensures.clean_ok)
 
 pub returns-in-Ok-clause-stopped : goal.returns-in-Ok-clause-stopped
-returns-in-Ok-clause-stopped g c =
-    rw (← c.self.view_is) (λ on.
-    let runs : c.self.inside.log.stopped ≡ false = sym c.is_stopped.ensures ∙ c.if-is_stopped.false in
-    let z : ⊥ = cc (on, runs) in
-    absurd z)
+returns-in-Ok-clause-stopped g c = rw (← c.self.view_is) (not_stopped c.self.inside.log.stopped (sym c.is_stopped.ensures ∙ c.if-is_stopped.false))
 
 -- or the log refused it
 pub invariant_of-self-in-Err : goal.invariant_of-self-in-Err
@@ -74,8 +70,4 @@ returns-in-Err-clause-clean g c =
     rw (← c.self.view_is) (λ clean. refused_clean c.self.invariant (sym c.is_stopped.ensures ∙ c.if-is_stopped.false) c.self.inside.swapped c.args.text.now c.rewrite.new.self c.rewrite.new.spare c.in-Err.ensures.same.0 clean c.in-Err.ensures.clean_err)
 
 pub returns-in-Err-clause-stopped : goal.returns-in-Err-clause-stopped
-returns-in-Err-clause-stopped g c =
-    rw (← c.self.view_is) (λ on.
-    let runs : c.self.inside.log.stopped ≡ false = sym c.is_stopped.ensures ∙ c.if-is_stopped.false in
-    let z : ⊥ = cc (on, runs) in
-    absurd z)
+returns-in-Err-clause-stopped g c = rw (← c.self.view_is) (not_stopped c.self.inside.log.stopped (sym c.is_stopped.ensures ∙ c.if-is_stopped.false))

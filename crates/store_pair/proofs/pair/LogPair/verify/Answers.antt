@@ -1,35 +1,14 @@
-use Rattle.store_pair.specs.Pair.{counted_in}
-use Rattle.store_pair.proofs.Pairs.{clean_both, clean_parts, hold_both, hold_parts, read_pair}
+use Rattle.store_pair.proofs.Pairs.{clean_parts, no_more_left, read_pair, still_clean}
 use Rattle.store_log.proofs.Returned.{if_err_then}
 use Rattle.store_pair.proofs.pair.LogPair.verify.Goals as goal
 
 pub invariant_of-self : goal.invariant_of-self
-invariant_of-self g c =
-    read_pair g.D.Disk.is_clean g.D.Disk.may_leave c.self.inside.log c.verify.new.self c.self.inside.spare c.verify.ensures.head c.verify.ensures.same c.verify.ensures.stopped c.verify.ensures.crash c.verify.ensures.clean c.self.invariant
+invariant_of-self g c = read_pair g.D.Disk.is_clean g.D.Disk.may_leave c.self.inside.log c.verify.new.self c.self.inside.spare c.verify.ensures.head c.verify.ensures.same c.verify.ensures.stopped c.verify.ensures.crash c.verify.ensures.clean c.self.invariant
 
-pub returns-clause-sound : goal.returns-clause-sound
-returns-clause-sound g c =
-    if_err_then c.verify.result c.verify.ensures.sound (λ error sound refusal clean. sound refusal (clean_parts g.D.Disk.is_clean c.self.inside.swapped c.verify.new.self.disk c.self.inside.spare clean).0)
-
-pub returns-clause-head : goal.returns-clause-head
-returns-clause-head g c = rw (← c.self.view_is) c.verify.ensures.head
-
-pub returns-clause-same : goal.returns-clause-same
-returns-clause-same g c = rw (← c.self.view_is) c.verify.ensures.same
-
-pub returns-clause-stopped : goal.returns-clause-stopped
-returns-clause-stopped g c = rw (← c.self.view_is) c.verify.ensures.stopped
-
-pub returns-clause-crash : goal.returns-clause-crash
-returns-clause-crash g c =
+pub returns : goal.returns
+returns g c =
     let inside = c.self.inside in
-    rw (← c.self.view_is) (λ left may.
-    let held = hold_parts g.D.Disk.may_leave inside.swapped c.verify.new.self.disk inside.spare left may in
-    hold_both g.D.Disk.may_leave inside.swapped inside.log.disk inside.spare left (c.verify.ensures.crash (counted_in inside.swapped left) held.0) held.1)
-
-pub returns-clause-clean : goal.returns-clause-clean
-returns-clause-clean g c =
-    let inside = c.self.inside in
-    rw (← c.self.view_is) (λ clean.
-    let parts = clean_parts g.D.Disk.is_clean inside.swapped c.verify.new.self.disk inside.spare clean in
-    clean_both g.D.Disk.is_clean inside.swapped inside.log.disk inside.spare (c.verify.ensures.clean parts.0) parts.1)
+    let sound = if_err_then c.verify.result c.verify.ensures.sound (λ error sound refusal clean. sound refusal (clean_parts g.D.Disk.is_clean inside.swapped c.verify.new.self.disk inside.spare clean).0) in
+    let crash = no_more_left g.D.Disk.may_leave inside.swapped inside.log.disk inside.spare c.verify.new.self.disk c.verify.ensures.crash in
+    let clean = still_clean g.D.Disk.is_clean inside.swapped inside.log.disk inside.spare c.verify.new.self.disk c.verify.ensures.clean in
+    rw (← c.self.view_is) (record { sound = sound; head = c.verify.ensures.head; same = c.verify.ensures.same; stopped = c.verify.ensures.stopped; crash = crash; clean = clean })
