@@ -45,8 +45,10 @@ impl<D: Disk> FrameFile<D> {
     }
 }
 
-/// Returns all bytes of a file. Returns `Err` if the disk fails or if it cannot allocate.
+/// Returns all bytes of a file.
 ///
+/// Returns `Err` if the disk fails or if it cannot allocate. Reads the file once, and allocates its
+/// length.
 pub fn read_all<D: Disk>(alloc: Global, disk: &mut D) -> Result<Vec<u8>, LogError>
     requires { IsTrue (D.is_usable disk.old) }
     ensures bytes { IfOk result (λ bytes. IsTrue (D.is_clean disk.new) → bytes.items ≡ D.seen disk.old) }

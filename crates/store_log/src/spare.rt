@@ -55,7 +55,8 @@ pub fn is_spare(bytes: &[u8]) -> bool
 /// Closes the gate at the front of a file that doesn't count, and cuts the file off behind it. A
 /// file that is older than some generation stays so, whatever a crash leaves.
 ///
-/// Returns `Err` if the disk fails.
+/// Returns `Err` if the disk fails. Writes at most two bytes, each by itself, and syncs at most
+/// three times. Allocates nothing.
 pub fn retire<D: Disk>(disk: &mut D) -> Result<(), LogError>
     requires { IsTrue (D.is_usable disk.old) }
     ensures older { (generation : ℕ) → IsTrue (D.is_clean disk.new) → AreOlder generation (D.may_leave disk.old) → AreOlder generation (D.may_leave disk.new) }
