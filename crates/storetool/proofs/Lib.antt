@@ -1,0 +1,9 @@
+pub mod Answered
+pub mod Commits
+pub mod Figures
+pub mod Listings
+pub mod Loading
+pub mod Pieces
+pub mod Scripts
+pub mod Sessions
+pub mod Tasks
