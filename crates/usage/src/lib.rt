@@ -9,6 +9,7 @@ ghost use Rattle.tree_model.specs.Pairs.{pair_at};
 mod baskets;
 mod batches;
 mod book;
+mod durable;
 mod events;
 mod examples;
 mod fills;
@@ -25,6 +26,7 @@ mod walks;
 pub use baskets::{are_counted, cost_of, count_of_all, count_of_first, first_in, has_all};
 pub use batches::{are_covered, cost_from, store_each};
 pub use book::{ask_from, best_ask, best_bid, cancel, second_ask};
+pub use durable::{open_store, save};
 pub use events::{Stamp, last_before};
 pub use examples::{
     add_all, add_each, are_apart, cut_out, first_within, gap_at, has_first, is_part, nearest,
