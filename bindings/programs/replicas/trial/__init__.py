@@ -1,0 +1,1 @@
+"""What tries the replicas. Nothing here is a part of the program."""
