@@ -281,13 +281,13 @@ def types_with(item):
 
 @functools.lru_cache(None)
 def functions():
-    """The functions that a caller sees, by name."""
+    """The functions that a caller sees, by name. If two have a name, that of the second one has its crate before it."""
     found = {}
     for (home, name), (crate, _) in exported().items():
         _, file, _, lines = source().declared(home, name)
         if kind_of(lines) == "fn":
-            path = path_of(home, file)
-            found[name] = function_at(crate, path, lines, is_inner(crate, name))
+            call = function_at(crate, path_of(home, file), lines, is_inner(crate, name))
+            found[f"{crate}.{name}" if name in found else name] = call._replace(owner=crate if name in found else "")
     return found
 
 

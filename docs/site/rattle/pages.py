@@ -52,6 +52,10 @@ EXAMPLES = {
     "Handle": ("crates/usage_threads/src/calls.rt", "fn lent"),
     "Guard": ("crates/usage_threads/src/calls.rt", "fn lent"),
     "ContainsEach": ("crates/usage/src/baskets.rt", "pub fn cost_of"),
+    "TreeStore": ("crates/usage/src/durable.rt", "pub fn save"),
+    "Files": ("crates/usage/src/durable.rt", "pub fn open_store"),
+    "OpenError": ("crates/usage/src/durable.rt", "pub fn open_store"),
+    "LogError": ("crates/usage/src/durable.rt", "pub fn save"),
 }
 
 

@@ -51,7 +51,7 @@ class Languages(Page):
     def tab(self, told):
         """The lines of a tab: one or more items of files, or a text."""
         for item in told.split(" | "):
-            item = TASKS + item if item.startswith("tasks.") else item
+            item = TASKS + item if item.startswith(("tasks.", "store.")) else item
             yield from [f"```{{rattle:shown}} {item}", "```"] if item.startswith(FOLDERS) else [item]
             yield ""
 
